@@ -1,0 +1,96 @@
+-- A number and its bytes, over the width; numbers in a row, over the place.
+-- Assumes nothing.
+use mathlib.Core.Path.{_≡_, refl, sym, ap, ap₂, _∙_}
+use mathlib.Core.List.{List, [], _∷_, _++_, append-assoc, append-nil}
+use Prim.Native.Nat.{ℕ, zero, suc, _+_, _-_, _*_, _/_, _%_, _^_, _<_, _≤_}
+use native.Mathlib.Nat.{not-suc-le-zero, le-of-suc-le-suc, pow-suc, div-add-mod', div-lt-iff-lt-mul, mod-lt, zero-lt-suc, add-assoc}
+use native.Mathlib.Omega.{arith}
+use lib.Dec.{lit<}
+use lib.Arith.{lt-one}
+use lib.ListN.{length, getD, take, drop, length-append}
+use lib.Seq.{take-at, drop-append-add}
+use Rattle.octets.specs.Octets.{part, writeAt, beFrom, beOf, beBytes, fieldsOf, Bytes}
+use Rattle.octets.proofs.Laws.{length-be, write-write}
+
+be-append : (a : ℕ) (s t : List ℕ) → beFrom a (s ++ t) ≡ beFrom (beFrom a s) t
+unfolding beFrom
+be-append a [] t = refl
+be-append a (b ∷ s) t = be-append (a * 256 + b) s t
+
+be-zero : (k v : ℕ) → v < 256 ^ k → beFrom 0 (beBytes k v) ≡ v
+unfolding beFrom beBytes
+be-zero zero v h = sym (lt-one h)
+be-zero (suc k) v h =
+    be-append 0 (beBytes k (v / 256)) (v % 256 ∷ [])
+    ∙ ap (λ (n : ℕ). n * 256 + v % 256) (be-zero k (v / 256) (div-lt-iff-lt-mul (zero-lt-suc 255) .1 (rw pow-suc at h)))
+    ∙ div-add-mod' v 256
+
+-- reading k bytes of a number of k bytes gives the number
+pub be-back : (k v : ℕ) → v < 256 ^ k → beOf (beBytes k v) ≡ v
+unfolding beOf
+be-back k v h = be-zero k v h
+
+-- where the i-th of numbers in a row begins
+abbrev pub offset : ℕ → List (ℕ × ℕ) → ℕ
+offset i [] = 0
+offset zero (f ∷ fs) = 0
+offset (suc i) (f ∷ fs) = f .0 + offset i fs
+
+pub field-at : (fs : List (ℕ × ℕ)) (rest : List ℕ) (i : ℕ) → i < length fs
+    → part (offset i fs) (getD fs i (0, 0) .0) (fieldsOf fs ++ rest) ≡ beBytes (getD fs i (0, 0) .0) (getD fs i (0, 0) .1)
+unfolding fieldsOf
+field-at [] rest i h = absurd (not-suc-le-zero h)
+field-at (f ∷ fs) rest zero h =
+    ap (take (f .0)) (append-assoc (beBytes (f .0) (f .1)) (fieldsOf fs) rest) ∙ take-at (beBytes (f .0) (f .1)) (fieldsOf fs ++ rest) (f .0) (length-be (f .0) (f .1))
+field-at (f ∷ fs) rest (suc i) h =
+    let b = beBytes (f .0) (f .1) in
+    let r = fieldsOf fs ++ rest in
+    ap (λ (l : List ℕ). take (getD fs i (0, 0) .0) (drop (f .0 + offset i fs) l)) (append-assoc b (fieldsOf fs) rest)
+    ∙ ap (λ (n : ℕ). take (getD fs i (0, 0) .0) (drop (n + offset i fs) (b ++ r))) (sym (length-be (f .0) (f .1)))
+    ∙ ap (take (getD fs i (0, 0) .0)) (drop-append-add b r (offset i fs))
+    ∙ field-at fs rest i (le-of-suc-le-suc h)
+
+-- how many bytes numbers in a row take
+abbrev pub widths : List (ℕ × ℕ) → ℕ
+widths [] = 0
+widths (f ∷ fs) = f .0 + widths fs
+
+pub length-fields : (fs : List (ℕ × ℕ)) → length (fieldsOf fs) ≡ widths fs
+unfolding fieldsOf
+length-fields [] = refl
+length-fields (f ∷ fs) = length-append (beBytes (f .0) (f .1)) (fieldsOf fs) ∙ ap₂ (λ (a b : ℕ). a + b) (length-be (f .0) (f .1)) (length-fields fs)
+
+pub fields-append : (fs gs : List (ℕ × ℕ)) → fieldsOf (fs ++ gs) ≡ fieldsOf fs ++ fieldsOf gs
+unfolding fieldsOf
+fields-append [] gs = refl
+fields-append (f ∷ fs) gs = ap (λ (r : List ℕ). beBytes (f .0) (f .1) ++ r) (fields-append fs gs) ∙ sym (append-assoc (beBytes (f .0) (f .1)) (fieldsOf fs) (fieldsOf gs))
+
+field-one : (k v : ℕ) → fieldsOf ((k, v) ∷ []) ≡ beBytes k v
+unfolding fieldsOf
+field-one k v = append-nil (beBytes k v)
+
+-- numbers written one behind the other
+pub first-field : (o k v : ℕ) (m l : List ℕ) → l ≡ writeAt o (beBytes k v) m → l ≡ writeAt o (fieldsOf ((k, v) ∷ [])) m
+first-field o k v m l e = e ∙ ap (λ (r : List ℕ). writeAt o r m) (sym (field-one k v))
+
+pub next-field : (fs : List (ℕ × ℕ)) (o k v : ℕ) (m l l′ : List ℕ) → o ≤ length m
+    → l ≡ writeAt o (fieldsOf fs) m → l′ ≡ writeAt (o + widths fs) (beBytes k v) l → l′ ≡ writeAt o (fieldsOf (fs ++ ((k, v) ∷ []))) m
+next-field fs o k v m l l′ h e e′ =
+    e′ ∙ ap (writeAt (o + widths fs) (beBytes k v)) e
+    ∙ write-write o (o + widths fs) (fieldsOf fs) (beBytes k v) m h (ap (λ (n : ℕ). o + n) (length-fields fs))
+    ∙ ap (λ (r : List ℕ). writeAt o r m) (ap (λ (r : List ℕ). fieldsOf fs ++ r) (sym (field-one k v)) ∙ sym (fields-append fs ((k, v) ∷ [])))
+
+-- what spells numbers are bytes
+pub bytes-append : (s t : List ℕ) → Bytes s → Bytes t → Bytes (s ++ t)
+bytes-append [] t p q = q
+bytes-append (b ∷ s) t p q = (p .0, bytes-append s t (p .1) q)
+
+bytes-be : (k v : ℕ) → Bytes (beBytes k v)
+unfolding beBytes
+bytes-be zero v = tt
+bytes-be (suc k) v = bytes-append (beBytes k (v / 256)) (v % 256 ∷ []) (bytes-be k (v / 256)) (mod-lt v (zero-lt-suc 255), tt)
+
+pub bytes-fields : (fs : List (ℕ × ℕ)) → Bytes (fieldsOf fs)
+unfolding fieldsOf
+bytes-fields [] = tt
+bytes-fields (f ∷ fs) = bytes-append (beBytes (f .0) (f .1)) (fieldsOf fs) (bytes-be (f .0) (f .1)) (bytes-fields fs)

@@ -2,10 +2,12 @@
 -- and writes in a row are taken one part after the other.
 -- Assumes nothing.
 use mathlib.Core.Path.{_≡_, refl, sym, ap, _∙_}
+use mathlib.Core.Bool.{Bool, true, false, cond}
 use mathlib.Core.List.{List, [], _∷_, _++_}
 use Prim.Native.Nat.{ℕ, zero, suc, _+_, _≤_, _<_}
 use native.Mathlib.Omega.{arith}
 use native.Mathlib.Decide.{decLt}
+use lib.Dec.{ltb, eqb}
 use lib.ListN.{length, take, length-take}
 use borrow.Author.Tests.{eq-eqb, ne-eqb, lt-ltb, le-ltb}
 use Rattle.octets.specs.Octets.{writeAt}
@@ -32,7 +34,7 @@ effect-here w l = rw (le-ltb w w (omega arith), eq-eqb w w refl)
 module _ (g : List ℕ) where
   -- ---- the numbered form
 
-  from-answered : (k : ℕ) (xs : List Write) (m : List ℕ) → afterFrom k Answered g xs m ≡ allOf xs m
+  pub from-answered : (k : ℕ) (xs : List Write) (m : List ℕ) → afterFrom k Answered g xs m ≡ allOf xs m
   unfolding afterFrom effectOf leave allOf
   from-answered k [] m = refl
   from-answered k (x ∷ xs) m = from-answered (k + 1) xs (writeAt (x .at) (x .bytes) m)
@@ -137,3 +139,16 @@ module _ (g : List ℕ) where
   length-leave Old x m h k = refl
   length-leave New x m h k = length-write (x .at) (x .bytes) m h
   length-leave Torn x m h k = length-write (x .at) (take (length (x .bytes)) g) m (simp length-take (omega arith))
+
+-- only a torn cut leaves given bytes
+pub torn-cut : (f : Fate) (k : ℕ) → effectOf f k ≡ Torn → (w : ℕ) × (f ≡ Cut w Torn)
+unfolding effectOf
+torn-cut Answered k e = let z : _≡_ {A = ℕ} 0 1 = cc in absurd (omega arith)
+torn-cut Lost k e = let z : _≡_ {A = ℕ} 0 1 = cc in absurd (omega arith)
+torn-cut AnswerLost k e = let z : _≡_ {A = ℕ} 0 1 = cc in absurd (omega arith)
+torn-cut (Cut w l) k e = go (ltb k w) (eqb k w) e
+  where
+    go : (a b : Bool) → cond a New (cond b l Old) ≡ Torn → (v : ℕ) × (Cut w l ≡ Cut v Torn)
+    go true b q = let z : _≡_ {A = ℕ} 0 1 = cc in absurd (omega arith)
+    go false true q = (w, ap (Cut w) q)
+    go false false q = let z : _≡_ {A = ℕ} 0 1 = cc in absurd (omega arith)

@@ -3,10 +3,10 @@
 use mathlib.Core.Path.{_≡_, refl, sym, ap, ap₂, _∙_}
 use mathlib.Core.List.{List, [], _∷_, _++_, append-assoc, append-nil}
 use Prim.Native.Nat.{ℕ, zero, suc, _+_, _-_, _*_, _/_, _%_, _^_, _<_, _≤_}
-use native.Mathlib.Nat.{not-suc-le-zero, le-of-suc-le-suc, pow-suc, div-add-mod', div-lt-iff-lt-mul, mod-lt, zero-lt-suc, add-assoc}
+use native.Mathlib.Nat.{not-suc-le-zero, le-of-suc-le-suc, pow-suc, div-add-mod', div-lt-iff-lt-mul, mod-lt, zero-lt-suc, add-assoc, add-zero, zero-add, add-suc, suc-add}
 use native.Mathlib.Omega.{arith}
 use lib.Dec.{lit<}
-use lib.Arith.{lt-one}
+use lib.Arith.{lt-one, digits-div, digits-mod}
 use lib.ListN.{length, getD, take, drop, length-append}
 use lib.Seq.{take-at, drop-append-add}
 use Rattle.octets.specs.Octets.{part, writeAt, beFrom, beOf, beBytes, fieldsOf, Bytes}
@@ -29,6 +29,20 @@ be-zero (suc k) v h =
 pub be-back : (k v : ℕ) → v < 256 ^ k → beOf (beBytes k v) ≡ v
 unfolding beOf
 be-back k v h = be-zero k v h
+
+bytes-after : (k a : ℕ) (s : List ℕ) → Bytes s → beBytes (k + length s) (beFrom a s) ≡ beBytes k a ++ s
+unfolding beFrom beBytes
+bytes-after k a [] p = ap (λ (n : ℕ). beBytes n a) (add-zero k) ∙ sym (append-nil (beBytes k a))
+bytes-after k a (b ∷ s) p =
+    ap (λ (n : ℕ). beBytes n (beFrom (a * 256 + b) s)) (add-suc k (length s) ∙ sym (suc-add k (length s)))
+    ∙ bytes-after (suc k) (a * 256 + b) s (p .1)
+    ∙ append-assoc (beBytes k ((a * 256 + b) / 256)) ((a * 256 + b) % 256 ∷ []) s
+    ∙ ap₂ (λ (x y : ℕ). beBytes k x ++ (y ∷ s)) (digits-div a (p .0)) (digits-mod a (p .0))
+
+-- spelling the number that bytes stand for gives the bytes
+pub bytes-back : (s : List ℕ) → Bytes s → beBytes (length s) (beOf s) ≡ s
+unfolding beOf beBytes
+bytes-back s p = ap (λ (n : ℕ). beBytes n (beFrom 0 s)) (sym (zero-add (length s))) ∙ bytes-after 0 0 s p
 
 -- where the i-th of numbers in a row begins
 abbrev pub offset : ℕ → List (ℕ × ℕ) → ℕ

@@ -1,0 +1,15 @@
+pub mod PlaceCases
+pub mod RecordWritten
+pub mod ReadBack
+pub mod SlotReadBack
+pub mod Records
+pub mod GivenCases
+pub mod Scan
+pub mod Wiping
+pub mod Writing
+pub mod Runs
+pub mod Blocks
+pub mod LogWrites
+pub mod SlotWrites
+pub mod Truncating
+pub mod Promises

@@ -1,0 +1,14 @@
+use Rattle.storage.specs.Places.{sizeOf}
+use borrow.Author.Needs.{needs}
+use Rattle.storage.proofs.place.data_length.Statement.{statement}
+use Rattle.storage.proofs.place.data_length.Tie as tie
+
+number-requires : tie.Need-number-requires
+number-requires c κs = search needs
+
+returns : tie.Need-returns
+unfolding sizeOf
+returns c = c .number .ensures
+
+pub data-length-spec : {M : Type 1} → statement M
+data-length-spec = tie.close (tie.spec number-requires returns)

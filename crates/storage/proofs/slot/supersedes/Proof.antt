@@ -1,0 +1,27 @@
+use mathlib.Core.Path.{_≡_, refl, sym, ap, ap₂, _∙_}
+use mathlib.Core.Bool.{true, false}
+use mathlib.Core.List.{List, [], _∷_, _++_}
+use Prim.Native.Nat.{ℕ, _≤_, zero-le}
+use lib.ListN.{length}
+use borrow.Author.Tests.{eq-eqb, ne-eqb, lt-ltb, le-ltb, not-true, not-false}
+use Rattle.octets.specs.Octets.{part, allZero, writeAt, fieldsOf}
+use Rattle.storage.specs.Slots.{slotNumbers, validSlot, slotOf, slotBytes, newer, currentOf, heldOf, otherAt}
+use native.Mathlib.Omega.{arith}
+use borrow.Author.Needs.{needs}
+use Rattle.storage.proofs.slot.supersedes.Statement.{statement}
+use Rattle.storage.proofs.slot.supersedes.Tie as tie
+
+returns : tie.Need-returns
+unfolding newer
+returns c = rw (lt-ltb _ _ (c .if1 .taken))
+
+returns-2 : tie.Need-returns-2
+unfolding newer
+returns-2 c = rw (le-ltb _ _ (c .before .before .before .if1 .left), ne-eqb _ _ (c .if2 .taken))
+
+returns-3 : tie.Need-returns-3
+unfolding newer
+returns-3 c = rw (le-ltb _ _ (c .before .before .before .before .before .if1 .left), eq-eqb _ _ (c .before .before .if2 .left))
+
+pub supersedes-spec : {M : Type 1} → statement M
+supersedes-spec = tie.close (tie.spec returns returns-2 returns-3)

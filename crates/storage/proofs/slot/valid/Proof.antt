@@ -1,0 +1,58 @@
+use mathlib.Core.Path.{_≡_, refl, sym, ap, ap₂, _∙_}
+use mathlib.Core.Bool.{true, false}
+use mathlib.Core.List.{List, [], _∷_, _++_}
+use Prim.Native.Nat.{ℕ, _≤_, zero-le}
+use lib.ListN.{length}
+use borrow.Author.Tests.{eq-eqb, ne-eqb, lt-ltb, le-ltb, not-true, not-false}
+use Rattle.octets.specs.Octets.{part, allZero, writeAt, fieldsOf}
+use Rattle.storage.specs.Slots.{slotNumbers, validSlot, slotOf, slotBytes, newer, currentOf, heldOf, otherAt}
+use native.Mathlib.Omega.{arith}
+use borrow.Author.Needs.{needs}
+use Rattle.storage.proofs.slot.valid.Statement.{statement}
+use Rattle.storage.proofs.slot.valid.Tie as tie
+
+returns : tie.Need-returns
+unfolding validSlot
+returns c = rw (ne-eqb _ 32 (c .if1 .taken))
+
+sub-all-zero : tie.Need-sub-all-zero
+sub-all-zero c = search needs
+
+part-all-zero-start : tie.Need-part-all-zero-start
+part-all-zero-start c = search needs
+
+part-all-zero-end : tie.Need-part-all-zero-end
+part-all-zero-end c = search needs
+
+all-zero-requires : tie.Need-all-zero-requires
+all-zero-requires c κs = search needs
+
+returns-2 : tie.Need-returns-2
+unfolding validSlot
+returns-2 c =
+    let s = c .before .before .before .before .before .args .s .now in
+    let z : allZero (part 24 4 s) ≡ false = sym (c .before .all-zero .ensures) ∙ not-true _ (c .if2 .taken) in
+    rw (eq-eqb (length s) 32 (c .before .before .before .if1 .left), z)
+
+check-requires : tie.Need-check-requires
+check-requires c κs = search needs
+
+returns-3 : tie.Need-returns-3
+unfolding validSlot
+returns-3 c =
+    let s = c .before .before .before .before .before .before .args .s .now in
+    let z : allZero (part 24 4 s) ≡ true = sym (c .before .before .all-zero .ensures) ∙ not-false _ (c .before .if2 .left) in
+    rw (eq-eqb (length s) 32 (c .before .before .before .before .if1 .left), z) (c .check .ensures)
+
+pub valid-spec : {M : Type 1} → statement M
+valid-spec =
+    tie.close
+    (tie.spec
+    returns
+    sub-all-zero
+    part-all-zero-start
+    part-all-zero-end
+    all-zero-requires
+    returns-2
+    check-requires
+    returns-3)

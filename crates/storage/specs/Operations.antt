@@ -1,0 +1,66 @@
+-- A replica's operations, each as the list of its writes. Document 01, "Calls on a cluster".
+-- Assumes nothing.
+use mathlib.Core.List.{List, [], _∷_, _++_}
+use mathlib.Core.Bool.{cond}
+use Prim.Native.Nat.{ℕ, zero, suc, _+_, _-_, _*_}
+use lib.Dec.{eqb}
+use Rattle.octets.specs.Octets.{part, writeAt}
+use Rattle.fate.specs.Fates.{Write}
+use Rattle.storage.specs.declared.slot.Slot.{Slot}
+use Rattle.storage.specs.declared.slot.Current.{Current}
+use Rattle.storage.specs.declared.replica.Closing.{Closing}
+use Rattle.storage.specs.declared.replica.Closing.the-variants.{Unresolved, Mark}
+use Rattle.storage.specs.Sizes.{placeOffset, mediumSize}
+use Rattle.storage.specs.Places.{wiped}
+use Rattle.storage.specs.Slots.{slotBytes, currentOf, storedSlot, otherAt}
+use Rattle.storage.specs.Log.{markOf}
+
+-- "A slot write goes to the other one."
+abbrev pub slotWrite : Current → Slot → Write
+slotWrite c x = record { at = otherAt c; bytes = slotBytes x }
+
+abbrev pub placeWrite : ℕ → List ℕ → Write
+placeWrite n bs = record { at = placeOffset n; bytes = bs }
+
+-- "Truncating wipes from the highest ID down, one write per place": d places above place t
+unfoldable pub wipes : ℕ → ℕ → List Write
+wipes t zero = []
+wipes t (suc d) = placeWrite (t + suc d) wiped ∷ wipes t d
+
+-- truncating a log with mark n to place t
+abbrev pub truncation : ℕ → ℕ → List Write
+truncation n t = wipes t (n - t)
+
+-- "a slot with the new promise, other fields kept, unless the promise is equal"
+unfoldable pub promising : Current → Slot → ℕ → List Write
+promising c x session =
+    cond (eqb (x .promise) session) [] (slotWrite c (record { promise = session; low = x .low; local = x .local }) ∷ [])
+
+-- "then truncates to the entry's closing mark if there is one"
+unfoldable pub closing : ℕ → Closing → List Write
+closing n Unresolved = []
+closing n (Mark t) = truncation n t
+
+-- prepare
+unfoldable pub prepareWrites : ℕ → ℕ → Closing → List ℕ → List Write
+prepareWrites N session to m = promising (currentOf m) (storedSlot m) session ++ closing (markOf N m) to
+
+-- trim: truncates to a mark
+unfoldable pub trimWrites : ℕ → ℕ → List ℕ → List Write
+trimWrites N t m = truncation (markOf N m) t
+
+-- send and copy: a record in the place behind mark n
+abbrev pub appendWrites : ℕ → List ℕ → List Write
+appendWrites n bs = placeWrite (n + 1) bs ∷ []
+
+-- note: "a slot with the promise kept", and these low-water marks
+unfoldable pub noteWrites : ℕ → ℕ → List ℕ → List Write
+noteWrites low local m =
+    slotWrite (currentOf m) (record { promise = storedSlot m .promise; low = low; local = local }) ∷ []
+
+-- "The media lie one after another in a single lent slice": replica i's medium, and the media with another in its place
+abbrev pub mediumAt : ℕ → ℕ → List ℕ → List ℕ
+mediumAt N i media = part (i * mediumSize N) (mediumSize N) media
+
+abbrev pub withMedium : ℕ → ℕ → List ℕ → List ℕ → List ℕ
+withMedium N i m media = writeAt (i * mediumSize N) m media

@@ -1,0 +1,174 @@
+// A replica's operations on its medium, each under a fate. What the replica has read before (its current slot, what that holds, its
+// mark) comes in as arguments, so that no byte is read twice.
+ghost use mathlib.Core.Path.{_≡_};
+ghost use Prim.Native.Nat.{_+_, _≤_, _<_};
+ghost use lib.ListN.{length};
+ghost use Rattle.crc32.specs.Tables.{tablesOf};
+ghost use Rattle.fate.specs.Fates.{after, leave};
+ghost use Rattle.fate.specs.Numbered.{effectOf, afterFrom};
+ghost use Rattle.storage.specs.Sizes.{placeSize, mediumSize, slotsSize};
+ghost use Rattle.storage.specs.Log.{markOf};
+ghost use Rattle.storage.specs.Operations.{slotWrite, promising, closing, prepareWrites, trimWrites, appendWrites, noteWrites};
+ghost use Rattle.storage.specs.AsRead.{AsRead};
+ghost use Rattle.storage.specs.Given.{passes};
+use crate::medium;
+use crate::place;
+use crate::sizes::SLOT;
+use crate::slot;
+use crate::slot::Current;
+use crate::slot::Slot;
+use crc32::Tables;
+use fate::Fate;
+
+// The closing part of a register entry: the mark at which a later session closed the replica's log, or none yet.
+pub enum Closing {
+    Unresolved,
+    Mark(u64),
+}
+
+// What a replica reads of its medium before it acts: its places, its current slot, what that holds, and its mark.
+pub struct Read {
+    pub places: usize,
+    pub current: Current,
+    pub slot: Slot,
+    pub mark: usize,
+}
+
+// Reads a medium: the two slots, then the places up to the mark, each once.
+pub fn read_medium(t: &Tables, m: &[u8], places: usize) -> Read
+    requires { ⌜ now t ≡ tablesOf ⌝ }
+    requires { ⌜ length (now m) ≡ mediumSize places ⌝ }
+    ensures { λ r. ⌜ (r .places ≡ places) × AsRead r (now (m .entry)) ⌝ }
+{
+    let c = slot::choose(t, m);
+    let x = slot::held(c, m);
+    let n = medium::mark(t, m, places);
+    Read {
+        places: places,
+        current: c,
+        slot: x,
+        mark: n,
+    }
+}
+
+// Write k puts a slot over the one that is not current.
+fn set_slot(t: &Tables, m: &mut [u8], c: Current, x: Slot, given: &[u8], f: Fate, k: u64)
+    requires { ⌜ now t ≡ tablesOf ⌝ }
+    requires { ⌜ slotsSize ≤ length (now m) ⌝ }
+    requires { ⌜ length (now given) ≡ placeSize ⌝ }
+    ensures { λ _. ⌜ now (m .exit) ≡ leave (effectOf f k) (now (given .entry)) (slotWrite c x) (now (m .entry)) ⌝ }
+{
+    let mut b = [0u8; SLOT];
+    slot::encode(t, &mut b, x);
+    let at = slot::other(c);
+    fate::store(m, at, &b, given, f, k);
+}
+
+// A slot with the new promise, unless that is the old one. The result is the number of the next write.
+fn renew(t: &Tables, m: &mut [u8], c: Current, x: Slot, session: u64, given: &[u8], f: Fate) -> u64
+    requires { ⌜ now t ≡ tablesOf ⌝ }
+    requires { ⌜ slotsSize ≤ length (now m) ⌝ }
+    requires { ⌜ length (now given) ≡ placeSize ⌝ }
+    ensures { λ r. ⌜ (r ≡ 1 + length (promising c x session)) × (now (m .exit) ≡ afterFrom 1 f (now (given .entry)) (promising c x session) (now (m .entry))) ⌝ }
+{
+    if x.promise == session {
+        return 1;
+    }
+    let y = Slot {
+        promise: session,
+        low: x.low,
+        local: x.local,
+    };
+    set_slot(t, m, c, y, given, f, 1);
+    2
+}
+
+// A log with mark n is truncated to the closing mark, if there is one: writes from k on.
+fn close(m: &mut [u8], n: usize, to: Closing, given: &[u8], f: Fate, k: u64)
+    requires { ⌜ mediumSize n ≤ length (now m) ⌝ }
+    requires { ⌜ length (now given) ≡ placeSize ⌝ }
+    requires { ⌜ k ≤ 2 ⌝ }
+    ensures { λ _. ⌜ now (m .exit) ≡ afterFrom k f (now (given .entry)) (closing n to) (now (m .entry)) ⌝ }
+{
+    match to {
+        Closing::Unresolved => {}
+        Closing::Mark(t) => medium::truncate(m, n, t as usize, given, f, k),
+    }
+}
+
+// prepare: the promise of a session, then truncation to the closing mark.
+pub fn prepare(
+    t: &Tables,
+    m: &mut [u8],
+    read: Read,
+    session: u64,
+    to: Closing,
+    given: &[u8],
+    f: Fate,
+)
+    requires { ⌜ now t ≡ tablesOf ⌝ }
+    requires { ⌜ AsRead read (now m) ⌝ }
+    requires { ⌜ length (now given) ≡ placeSize ⌝ }
+    ensures { λ _. ⌜ now (m .exit) ≡ after f (now (given .entry)) (prepareWrites (read .places) session to (now (m .entry))) (now (m .entry)) ⌝ }
+{
+    let c = read.current;
+    let x = read.slot;
+    let k = renew(t, m, c, x, session, given, f);
+    close(m, read.mark, to, given, f, k);
+}
+
+// trim: truncation to a mark.
+pub fn trim(m: &mut [u8], read: Read, to: u64, given: &[u8], f: Fate)
+    requires { ⌜ AsRead read (now m) ⌝ }
+    requires { ⌜ length (now given) ≡ placeSize ⌝ }
+    ensures { λ _. ⌜ now (m .exit) ≡ after f (now (given .entry)) (trimWrites (read .places) to (now (m .entry))) (now (m .entry)) ⌝ }
+{
+    medium::truncate(m, read.mark, to as usize, given, f, 1);
+}
+
+// send and copy: a record in the place behind the mark.
+pub fn append(m: &mut [u8], read: Read, src: &[u8], given: &[u8], f: Fate)
+    requires { ⌜ AsRead read (now m) ⌝ }
+    requires { ⌜ read .mark < read .places ⌝ }
+    requires { ⌜ length (now src) ≡ placeSize ⌝ }
+    requires { ⌜ length (now given) ≡ placeSize ⌝ }
+    ensures { λ _. ⌜ now (m .exit) ≡ after f (now (given .entry)) (appendWrites (markOf (read .places) (now (m .entry))) (now (src .entry))) (now (m .entry)) ⌝ }
+{
+    medium::set_place(m, read.mark + 1, src, given, f, 1);
+}
+
+// note: a slot with the promise kept and these low-water marks.
+pub fn note(t: &Tables, m: &mut [u8], read: Read, low: u64, local: u64, given: &[u8], f: Fate)
+    requires { ⌜ now t ≡ tablesOf ⌝ }
+    requires { ⌜ AsRead read (now m) ⌝ }
+    requires { ⌜ length (now given) ≡ placeSize ⌝ }
+    ensures { λ _. ⌜ now (m .exit) ≡ after f (now (given .entry)) (noteWrites low local (now (m .entry))) (now (m .entry)) ⌝ }
+{
+    let c = read.current;
+    let x = read.slot;
+    let y = Slot {
+        promise: x.promise,
+        low: low,
+        local: local,
+    };
+    set_slot(t, m, c, y, given, f, 1);
+}
+
+// Whether the bytes given for a torn write pass as a slot or as any place of the medium: only the place that they name can it be.
+pub fn given_pass(t: &Tables, g: &[u8], places: u64) -> bool
+    requires { ⌜ now t ≡ tablesOf ⌝ }
+    requires { ⌜ length (now g) ≡ placeSize ⌝ }
+    ensures { λ r. ⌜ r ≡ passes places (now (g .entry)) ⌝ }
+{
+    if slot::valid(t, &g[0..SLOT]) {
+        return true;
+    }
+    let n = octets::get_be(&g[0..8]);
+    if n == 0 {
+        return false;
+    }
+    if places < n {
+        return false;
+    }
+    place::valid(t, g, n)
+}

@@ -1,0 +1,125 @@
+// The two slots of a medium: which is current, what it holds, and a slot's bytes.
+ghost use mathlib.Core.Path.{_≡_};
+ghost use Prim.Native.Nat.{_≤_};
+ghost use lib.ListN.{length};
+ghost use Rattle.crc32.specs.Tables.{tablesOf};
+ghost use Rattle.storage.specs.Sizes.{slotSize, slotsSize};
+ghost use Rattle.storage.specs.Slots.{validSlot, slotOf, slotBytes, newer, currentOf, heldOf, otherAt};
+use crate::sizes::SLOT;
+use crate::sizes::SLOT_CHECKED;
+use crate::sizes::SLOTS;
+use crc32::Tables;
+
+// What a slot holds: the promised session, the low-water mark and the local low-water mark.
+pub struct Slot {
+    pub promise: u64,
+    pub low: u64,
+    pub local: u64,
+}
+
+// Which of the two slots is current.
+pub enum Current {
+    First,
+    Second,
+    Neither,
+}
+
+pub fn valid(t: &Tables, s: &[u8]) -> bool
+    requires { ⌜ now t ≡ tablesOf ⌝ }
+    ensures { λ r. ⌜ r ≡ validSlot (now (s .entry)) ⌝ }
+{
+    if s.len() != SLOT {
+        return false;
+    }
+    if !octets::all_zero(&s[24..28]) {
+        return false;
+    }
+    crc32::check(t, s, SLOT_CHECKED)
+}
+
+pub fn read(s: &[u8]) -> Slot
+    requires { ⌜ length (now s) ≡ slotSize ⌝ }
+    ensures { λ r. ⌜ r ≡ slotOf (now (s .entry)) ⌝ }
+{
+    let promise = octets::get_be(&s[0..8]);
+    let low = octets::get_be(&s[8..16]);
+    let local = octets::get_be(&s[16..24]);
+    Slot {
+        promise: promise,
+        low: low,
+        local: local,
+    }
+}
+
+pub fn encode(t: &Tables, out: &mut [u8], x: Slot)
+    requires { ⌜ now t ≡ tablesOf ⌝ }
+    requires { ⌜ length (now out) ≡ slotSize ⌝ }
+    ensures { λ _. ⌜ now (out .exit) ≡ slotBytes x ⌝ }
+{
+    octets::put_be(out, 0, 8, x.promise);
+    octets::put_be(out, 8, 8, x.low);
+    octets::put_be(out, 16, 8, x.local);
+    octets::put_be(out, 24, 4, 0);
+    crc32::seal(t, out, SLOT_CHECKED);
+}
+
+// Whether b, the slot at 32, goes before a, the one at 0.
+fn supersedes(a: Slot, b: Slot) -> bool
+    ensures { λ r. ⌜ r ≡ newer a b ⌝ }
+{
+    if a.promise < b.promise {
+        return true;
+    }
+    if a.promise != b.promise {
+        return false;
+    }
+    a.low < b.low
+}
+
+// The current slot of a medium.
+pub fn choose(t: &Tables, m: &[u8]) -> Current
+    requires { ⌜ now t ≡ tablesOf ⌝ }
+    requires { ⌜ slotsSize ≤ length (now m) ⌝ }
+    ensures { λ r. ⌜ r ≡ currentOf (now (m .entry)) ⌝ }
+{
+    if !valid(t, &m[0..SLOT]) {
+        if !valid(t, &m[SLOT..SLOTS]) {
+            return Current::Neither;
+        }
+        return Current::Second;
+    }
+    if !valid(t, &m[SLOT..SLOTS]) {
+        return Current::First;
+    }
+    if supersedes(read(&m[0..SLOT]), read(&m[SLOT..SLOTS])) {
+        return Current::Second;
+    }
+    Current::First
+}
+
+// What the current slot holds.
+pub fn held(c: Current, m: &[u8]) -> Slot
+    requires { ⌜ slotsSize ≤ length (now m) ⌝ }
+    ensures { λ r. ⌜ r ≡ heldOf c (now (m .entry)) ⌝ }
+{
+    match c {
+        Current::First => read(&m[0..SLOT]),
+        Current::Second => read(&m[SLOT..SLOTS]),
+        Current::Neither => Slot {
+            promise: 0,
+            low: 0,
+            local: 0,
+        },
+    }
+}
+
+// Where the next slot write goes.
+pub fn other(c: Current) -> usize
+    ensures { λ r. ⌜ r ≡ otherAt c ⌝ }
+{
+    match c {
+        Current::First => SLOT,
+        Current::Second => 0,
+        Current::Neither => 0,
+    }
+}

@@ -11,4 +11,12 @@ pub mod replica;
 
 pub mod fate;
 
+pub mod locks;
+pub mod votes;
+
+pub mod cluster;
+pub mod exported;
+
+pub mod script;
+
 pub mod vectors;

@@ -72,26 +72,28 @@ impl Operation {
     /// The writes in the order in which they are made: at most one of a slot or a record, then a truncation.
     pub fn writes(self, found: Found) -> impl Iterator<Item = Write> {
         let Found { slot, mark, .. } = found;
-        let (first, to) = match self {
-            Operation::Prepare { session, closing } => {
+        let first = match self {
+            Operation::Prepare { session, .. } => {
                 let promised = Slot { promise: session, ..slot };
-                let write = (slot.promise != session).then(|| found.slot_write(promised));
-                (write, closing.unwrap_or(mark))
+                (slot.promise != session).then(|| found.slot_write(promised))
             }
-            Operation::Append(record) => (Some(Write::Place(mark + 1, record)), mark),
-            Operation::Truncate(to) => (None, to),
-            Operation::Note { low, local } => {
-                let noted = Slot { low, local, ..slot };
-                (Some(found.slot_write(noted)), mark)
-            }
-            Operation::Read => (None, mark),
+            Operation::Append(record) => Some(Write::Place(mark + 1, record)),
+            Operation::Note { low, local } => Some(found.slot_write(Slot { low, local, ..slot })),
+            Operation::Truncate(_) | Operation::Read => None,
         };
-        first.into_iter().chain(truncation(mark, to))
+        first.into_iter().chain(truncation(mark, self.keeps(mark)))
+    }
+
+    /// How much of a log with this mark the operation leaves as it is.
+    pub fn keeps(&self, mark: u64) -> u64 {
+        match *self {
+            Operation::Prepare { closing: Some(to), .. } | Operation::Truncate(to) => to.min(mark),
+            _ => mark,
+        }
     }
 }
 
-/// Wipes from the highest ID down, one write per place; no write if the mark is not above `to`.
-fn truncation(mark: u64, to: u64) -> impl Iterator<Item = Write> {
-    let kept = to.min(mark);
+/// Wipes from the highest ID down, one write per place.
+fn truncation(mark: u64, kept: u64) -> impl Iterator<Item = Write> {
     (kept..mark).rev().map(|below| Write::Place(below + 1, WIPED))
 }

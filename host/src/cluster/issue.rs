@@ -1,0 +1,47 @@
+//! issue: gives a request the next ID.
+
+use super::{Answer, Cluster, Phase, Refusal, Reply, Request};
+use crate::locks::{first_conflict, write_locks};
+use crate::medium::{Record, DATA_LIMIT};
+
+/// The most locks that a request names.
+const LOCK_LIMIT: usize = 4;
+
+impl Cluster {
+    /// Makes the request the issued record and writes its ID at its locks; answers the ID.
+    pub fn issue(&mut self, server: u64, request: &Request) -> Reply {
+        let server = self.check_server(server)?;
+        self.check_phase(server, &[Phase::Open])?;
+        self.check_request(server, request)?;
+        let record = &mut self.records.servers[server];
+        let id = record.issued + 1;
+        record.issued = id;
+        record.record = Record {
+            id,
+            client: request.client,
+            generation: request.generation,
+            partition: request.partition,
+            sequence: request.sequence,
+            header: request.header,
+            data: &request.data,
+        }
+        .encode();
+        write_locks(self.table_mut(server), &request.locks, id);
+        Ok(Answer::Number(id))
+    }
+
+    /// 10 to 15. All locks are judged on the table as it is before any is written.
+    fn check_request(&self, server: usize, request: &Request) -> Result<(), Refusal> {
+        let record = &self.records.servers[server];
+        Refusal::OtherGeneration.when(request.generation != record.generation)?;
+        Refusal::ClientAhead.when(request.client_mark > record.acknowledged)?;
+        let too_much = request.data.len() > DATA_LIMIT || request.locks.len() > LOCK_LIMIT;
+        Refusal::TooMuch.when(too_much)?;
+        Refusal::Unacknowledged.when(record.acknowledged < record.issued)?;
+        Refusal::Full.when(record.issued == self.shape.places)?;
+        match first_conflict(self.table(server), &request.locks, request.client_mark) {
+            Some((lock, estimate)) => Err(Refusal::Locked { lock, estimate }),
+            None => Ok(()),
+        }
+    }
+}

@@ -1,0 +1,83 @@
+//! Replies: an answer, silence, or the number of the first reason to decline.
+
+use crate::medium::PlaceBytes;
+
+pub type Reply = Result<Answer, Refusal>;
+
+/// The reply to a call that is not declined.
+#[derive(Clone, Copy, Debug, PartialEq, Eq)]
+pub enum Answer {
+    /// Done, with no value (stop).
+    Nothing,
+    Number(u64),
+    /// A place (read).
+    Bytes(PlaceBytes),
+    /// No answer came.
+    Silent,
+}
+
+/// Why a call is declined, in the order in which the reasons are checked.
+#[derive(Clone, Copy, Debug, PartialEq, Eq)]
+pub enum Refusal {
+    OutsideShape,
+    MarkAbovePlaces,
+    NoSuchServer,
+    NoSuchReplica,
+    OtherPhase,
+    UnfitFate,
+    ReplicaOut,
+    Undecided,
+    TooFewClean,
+    OtherGeneration,
+    ClientAhead,
+    TooMuch,
+    Unacknowledged,
+    Full,
+    Locked { lock: u64, estimate: u64 },
+    NothingToDo,
+    UnfitSource,
+    NoSlot,
+    OtherPromise,
+    OtherMark,
+    AtTop,
+    OtherSession,
+}
+
+impl Refusal {
+    /// Document 01's number.
+    pub fn number(&self) -> u64 {
+        match self {
+            Refusal::OutsideShape => 1,
+            Refusal::MarkAbovePlaces => 2,
+            Refusal::NoSuchServer => 3,
+            Refusal::NoSuchReplica => 4,
+            Refusal::OtherPhase => 5,
+            Refusal::UnfitFate => 6,
+            Refusal::ReplicaOut => 7,
+            Refusal::Undecided => 8,
+            Refusal::TooFewClean => 9,
+            Refusal::OtherGeneration => 10,
+            Refusal::ClientAhead => 11,
+            Refusal::TooMuch => 12,
+            Refusal::Unacknowledged => 13,
+            Refusal::Full => 14,
+            Refusal::Locked { .. } => 15,
+            Refusal::NothingToDo => 16,
+            Refusal::UnfitSource => 17,
+            Refusal::NoSlot => 18,
+            Refusal::OtherPromise => 19,
+            Refusal::OtherMark => 20,
+            Refusal::AtTop => 21,
+            Refusal::OtherSession => 22,
+        }
+    }
+
+    /// Itself, if its condition holds.
+    pub(super) fn when(self, condition: bool) -> Result<(), Refusal> {
+        if condition {
+            Err(self)
+        } else {
+            Ok(())
+        }
+    }
+}

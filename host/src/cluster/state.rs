@@ -1,0 +1,152 @@
+//! What the calls work on: register, server records, media and lock tables.
+
+use crate::locks::TABLE_MARKS;
+use crate::medium::{self, PlaceBytes, WIPED};
+use crate::votes::{quorum, MOST_REPLICAS};
+
+pub const SERVERS: usize = 4;
+pub const MOST_PLACES: u64 = 1000;
+
+/// R and N.
+#[derive(Clone, Copy, Debug, PartialEq, Eq)]
+pub struct Shape {
+    pub replicas: u64,
+    pub places: u64,
+}
+
+impl Shape {
+    pub fn is_allowed(&self) -> bool {
+        matches!(self.replicas, 1 | 3 | 5 | 7) && (1..=MOST_PLACES).contains(&self.places)
+    }
+
+    /// Bytes of one replica's medium.
+    pub(super) fn medium_bytes(&self) -> usize {
+        medium::medium_bytes(self.places as usize)
+    }
+}
+
+/// What the register holds of one replica; a closing mark of `None` is unresolved.
+#[derive(Clone, Copy, Debug, Default, PartialEq, Eq)]
+pub struct Entry {
+    pub session: u64,
+    pub closing: Option<u64>,
+}
+
+#[derive(Clone, Copy, Debug, Default, PartialEq, Eq)]
+pub struct Register {
+    pub session: u64,
+    pub generation: u32,
+    pub entries: [Entry; MOST_REPLICAS],
+}
+
+#[derive(Clone, Copy, Debug, Default, PartialEq, Eq)]
+pub enum Phase {
+    #[default]
+    Idle,
+    Opening,
+    Open,
+}
+
+/// What a replica is to a server.
+#[derive(Clone, Copy, Debug, Default, PartialEq, Eq)]
+pub enum Standing {
+    /// Not known while opening, no member once open.
+    #[default]
+    Out,
+    /// Known while opening, a member once open.
+    In,
+    /// A member that was silent and is not used again in this session.
+    Dropped,
+}
+
+/// A server's record; an idle server's is all zeros.
+#[derive(Clone, Copy, Debug, PartialEq, Eq)]
+pub struct Server {
+    pub phase: Phase,
+    pub session: u64,
+    pub generation: u32,
+    /// The register's entries as take handed them over.
+    pub entries: [Entry; MOST_REPLICAS],
+    pub standings: [Standing; MOST_REPLICAS],
+    /// The recorded mark of each replica.
+    pub marks: [u64; MOST_REPLICAS],
+    pub starting: u64,
+    pub issued: u64,
+    pub acknowledged: u64,
+    /// The issued record.
+    pub record: PlaceBytes,
+}
+
+impl Default for Server {
+    fn default() -> Server {
+        Server {
+            phase: Phase::Idle,
+            session: 0,
+            generation: 0,
+            entries: Default::default(),
+            standings: Default::default(),
+            marks: [0; MOST_REPLICAS],
+            starting: 0,
+            issued: 0,
+            acknowledged: 0,
+            record: WIPED,
+        }
+    }
+}
+
+#[derive(Clone, Copy, Debug, Default, PartialEq, Eq)]
+pub struct Records {
+    pub register: Register,
+    pub servers: [Server; SERVERS],
+}
+
+/// All that a call gets. Any values and lengths may be handed in; the calls decline what does not fit.
+#[derive(Clone, Debug, PartialEq, Eq)]
+pub struct Cluster {
+    pub shape: Shape,
+    pub records: Records,
+    /// The media one after another.
+    pub media: Vec<u8>,
+    /// The servers' lock tables one after another.
+    pub locks: Vec<u64>,
+}
+
+impl Cluster {
+    /// A fresh cluster, if the shape is allowed.
+    pub fn fresh(shape: Shape) -> Option<Cluster> {
+        shape.is_allowed().then(|| Cluster {
+            shape,
+            records: Records::default(),
+            media: medium::fresh(shape.places as usize).repeat(shape.replicas as usize),
+            locks: vec![0; SERVERS * TABLE_MARKS],
+        })
+    }
+
+    pub(super) fn replicas(&self) -> usize {
+        self.shape.replicas as usize
+    }
+
+    pub(super) fn quorum(&self) -> usize {
+        quorum(self.replicas())
+    }
+
+    /// One replica's medium.
+    pub fn medium(&self, replica: usize) -> &[u8] {
+        let bytes = self.shape.medium_bytes();
+        &self.media[replica * bytes..][..bytes]
+    }
+
+    pub(super) fn medium_mut(&mut self, replica: usize) -> &mut [u8] {
+        let bytes = self.shape.medium_bytes();
+        &mut self.media[replica * bytes..][..bytes]
+    }
+
+    /// One server's lock table.
+    pub fn table(&self, server: usize) -> &[u64] {
+        &self.locks[server * TABLE_MARKS..][..TABLE_MARKS]
+    }
+
+    pub(super) fn table_mut(&mut self, server: usize) -> &mut [u64] {
+        &mut self.locks[server * TABLE_MARKS..][..TABLE_MARKS]
+    }
+}

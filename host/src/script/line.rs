@@ -1,0 +1,109 @@
+//! The forms of a line.
+
+use super::LINE_LIMIT;
+use crate::cluster::{Call, Message, Request, Shape};
+use crate::fate::Fate;
+use crate::hex;
+
+/// What a line that fits a form asks for.
+#[derive(Debug, PartialEq, Eq)]
+pub enum Form {
+    Cluster(Shape),
+    Call(Call),
+}
+
+/// `None` for a bad line.
+pub fn parse(line: &[u8]) -> Option<Form> {
+    if line.len() > LINE_LIMIT {
+        return None;
+    }
+    let mut fields = Fields(line.split(|&byte| byte == b'\t'));
+    let form = match fields.next()? {
+        b"cluster" => Form::Cluster(Shape { replicas: fields.number()?, places: fields.number()? }),
+        word => Form::Call(fields.call(word)?),
+    };
+    fields.end()?;
+    Some(form)
+}
+
+/// The fields of a line that are still to be read.
+struct Fields<I>(I);
+
+impl<'a, I: Iterator<Item = &'a [u8]>> Fields<I> {
+    fn next(&mut self) -> Option<&'a [u8]> {
+        self.0.next()
+    }
+
+    /// A line with more fields than its form fits none.
+    fn end(&mut self) -> Option<()> {
+        self.next().is_none().then_some(())
+    }
+
+    fn call(&mut self, word: &[u8]) -> Option<Call> {
+        Some(match word {
+            b"take" => Call::Take { server: self.number()?, fate: self.fate()? },
+            b"prep" => Call::Prepare {
+                server: self.number()?,
+                replica: self.number()?,
+                message: self.message()?,
+            },
+            b"copy" => Call::Copy {
+                server: self.number()?,
+                from: self.number()?,
+                to: self.number()?,
+                message: self.message()?,
+            },
+            b"open" => Call::Open { server: self.number()?, fate: self.fate()? },
+            b"issue" => Call::Issue { server: self.number()?, request: self.request()? },
+            b"send" => Call::Send {
+                server: self.number()?,
+                replica: self.number()?,
+                message: self.message()?,
+            },
+            _ => return None,
+        })
+    }
+
+    /// Client mark, generation, header and data, then each lock.
+    fn request(&mut self) -> Option<Request> {
+        let client_mark = self.number()?;
+        let generation = self.word()?;
+        let header = self.word()?;
+        let data = hex::decode(self.next()?)?;
+        let locks = self.0.by_ref().map(number).collect::<Option<Vec<u64>>>()?;
+        Some(Request { client_mark, generation, header, data, locks, ..Request::default() })
+    }
+
+    fn number(&mut self) -> Option<u64> {
+        number(self.next()?)
+    }
+
+    /// A number of 32 bits.
+    fn word(&mut self) -> Option<u32> {
+        self.number()?.try_into().ok()
+    }
+
+    fn fate(&mut self) -> Option<Fate> {
+        match self.number()? {
+            0 => Some(Fate::Answered),
+            1 => Some(Fate::Lost),
+            2 => Some(Fate::AnswerLost),
+            _ => None,
+        }
+    }
+
+    fn message(&mut self) -> Option<Message> {
+        self.fate().map(Message::new)
+    }
+}
+
+/// A number of 64 bits in base ten: digits only, at least one, leading zeros allowed.
+fn number(field: &[u8]) -> Option<u64> {
+    if field.is_empty() {
+        return None;
+    }
+    field.iter().try_fold(0u64, |value, &byte| {
+        let digit = byte.is_ascii_digit().then(|| u64::from(byte - b'0'))?;
+        value.checked_mul(10)?.checked_add(digit)
+    })
+}

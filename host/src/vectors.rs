@@ -1,0 +1,28 @@
+//! Storage vectors: lines of input for the proved storage layer, and what this implementation answers to each.
+//!
+//! A line is a command word and its fields with a tab before each; numbers in base ten, bytes as capital hexadecimal
+//! digits. FATE stands for four fields: 0 answered, 1 lost, 2 answer lost or 3 cut; the write w; 0 old, 1 new or
+//! 2 torn; the 64 given bytes. MEDIUM is the bytes of a medium of N places.
+//!
+//! | command | fields | answer |
+//! |---|---|---|
+//! | crc | BYTES | the check, 8 digits |
+//! | place | n, 64 BYTES | 0, or 1 and ID, client, generation, partition, sequence, header, length, DATA |
+//! | slot | 32 BYTES | 0, or 1 and promise, low-water mark, local low-water mark |
+//! | record | ID, client, generation, partition, sequence, header, DATA | the record's 64 bytes |
+//! | slotof | promise, low-water mark, local low-water mark | the slot's 32 bytes |
+//! | medium | N, MEDIUM | mark; current slot (0, 1, or 2 for none) and its three fields (zeros for none) |
+//! | prepare | N, session, closing, FATE, MEDIUM | the medium after it; closing is 0 if unresolved, else the closing mark + 1 |
+//! | append | N, 64 BYTES, FATE, MEDIUM | the medium after these bytes were written at the mark + 1 |
+//! | truncate | N, to, FATE, MEDIUM | the medium after it |
+//! | note | N, low-water mark, local low-water mark, FATE, MEDIUM | the medium after it |
+//!
+//! prepare and note come with a valid slot, prepare with a promise not above the session, append with a mark below N.
+
+mod answers;
+mod cases;
+mod published;
+
+pub use answers::output;
+pub use cases::input;
+pub use published::PUBLISHED;

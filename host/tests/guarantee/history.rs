@@ -1,0 +1,215 @@
+//! What a list of calls has brought about, in the words of demand 3, and the three conclusions.
+
+use std::collections::{BTreeMap, HashMap};
+
+use twin::cluster::{Answer, Call, Cluster, Reply, Request, SERVERS};
+use twin::fate::Fate;
+use twin::medium::{is_place, place, PlaceBytes};
+
+/// An issue call that was answered: two with equal bytes are two transactions.
+struct Transaction {
+    bytes: PlaceBytes,
+    locks: Vec<u64>,
+    client_mark: u64,
+}
+
+/// What a log holds under an ID.
+#[derive(Clone, Copy)]
+struct Held {
+    bytes: PlaceBytes,
+    transaction: usize,
+}
+
+type Log = BTreeMap<u64, Held>;
+
+/// A session that was opened.
+pub struct Session {
+    /// One log for each replica that its starting part may be read from.
+    logs: Vec<Log>,
+    starting: u64,
+    pub acknowledged: u64,
+}
+
+pub struct History {
+    transactions: Vec<Transaction>,
+    /// The transaction that a session's issue answered with this ID.
+    issued: HashMap<(u64, u64), usize>,
+    /// The transaction in each replica's place; index 0 is place 1.
+    standing: Vec<Vec<Option<usize>>>,
+    /// The session of each server's calls: what its last take answered.
+    sessions: [u64; SERVERS],
+    opened: BTreeMap<u64, Session>,
+}
+
+impl History {
+    pub fn new(replicas: usize, places: usize) -> History {
+        History {
+            transactions: Vec::new(),
+            issued: HashMap::new(),
+            standing: vec![vec![None; places]; replicas],
+            sessions: [0; SERVERS],
+            opened: BTreeMap::new(),
+        }
+    }
+
+    pub fn opened(&self) -> &BTreeMap<u64, Session> {
+        &self.opened
+    }
+
+    /// Adds one call; a declined one leaves no trace.
+    pub fn add(&mut self, before: &Cluster, call: &Call, reply: &Reply, after: &Cluster) {
+        let Ok(answer) = reply else {
+            return;
+        };
+        match (call, answer) {
+            (Call::Take { server, .. }, Answer::Number(session)) => {
+                self.sessions[*server as usize] = *session;
+            }
+            (Call::Open { server, .. }, _) => self.open(*server, before, after),
+            (Call::Issue { server, request }, Answer::Number(id)) => {
+                self.issue(*server, request, *id, after);
+            }
+            (Call::Send { server, replica, .. }, answer) => {
+                let number = before.records.servers[*server as usize].marks[*replica as usize] + 1;
+                let sent = self.issued.get(&(self.session(*server), number)).copied();
+                self.stand(*replica, number, sent, before, after);
+                self.acknowledge(*server, answer);
+            }
+            (Call::Copy { server, from, to, .. }, answer) => {
+                let number = before.records.servers[*server as usize].marks[*to as usize] + 1;
+                let copied = self.standing[*from as usize][number as usize - 1];
+                self.stand(*to, number, copied, before, after);
+                self.acknowledge(*server, answer);
+            }
+            _ => {}
+        }
+        self.forget_invalid(after);
+    }
+
+    fn session(&self, server: u64) -> u64 {
+        self.sessions[server as usize]
+    }
+
+    /// A session is opened when an open call of it changes the register, even if the answer is lost.
+    fn open(&mut self, server: u64, before: &Cluster, after: &Cluster) {
+        if before.records.register == after.records.register {
+            return;
+        }
+        let session = self.session(server);
+        let Ok(Answer::Number(starting)) = before.clone().open(server, Fate::Answered) else {
+            panic!("an open that changes the register is answered with a mark");
+        };
+        let entries = after.records.register.entries.iter().enumerate();
+        let set = entries.filter(|(_, entry)| entry.session == session);
+        let logs = set.map(|(replica, _)| self.standing_log(replica, starting, after)).collect();
+        let opening = Session { logs, starting, acknowledged: starting };
+        assert!(self.opened.insert(session, opening).is_none(), "opened twice");
+    }
+
+    /// What stands on a replica up to the mark.
+    fn standing_log(&self, replica: usize, mark: u64, cluster: &Cluster) -> Log {
+        let held = (1..=mark).filter_map(|number| {
+            let transaction = self.standing[replica][number as usize - 1]?;
+            Some((number, Held { bytes: place(cluster.medium(replica), number), transaction }))
+        });
+        held.collect()
+    }
+
+    fn issue(&mut self, server: u64, request: &Request, id: u64, after: &Cluster) {
+        let bytes = after.records.servers[server as usize].record;
+        let transaction = self.transactions.len();
+        self.transactions.push(Transaction {
+            bytes,
+            locks: request.locks.clone(),
+            client_mark: request.client_mark,
+        });
+        let session = self.session(server);
+        self.issued.insert((session, id), transaction);
+        for log in &mut self.opened.get_mut(&session).expect("issued by an open server").logs {
+            log.insert(id, Held { bytes, transaction });
+        }
+    }
+
+    /// A send or copy that makes the place valid puts the transaction there.
+    fn stand(
+        &mut self,
+        replica: u64,
+        number: u64,
+        transaction: Option<usize>,
+        before: &Cluster,
+        after: &Cluster,
+    ) {
+        let replica = replica as usize;
+        let valid = |cluster: &Cluster| is_place(number, &place(cluster.medium(replica), number));
+        if !valid(before) && valid(after) {
+            assert!(transaction.is_some(), "a place is made valid by a transaction");
+            self.standing[replica][number as usize - 1] = transaction;
+        }
+    }
+
+    /// What sends, and copies once opened, answer; before that a copy answers another mark.
+    fn acknowledge(&mut self, server: u64, answer: &Answer) {
+        let session = self.session(server);
+        if let (Answer::Number(mark), Some(opened)) = (answer, self.opened.get_mut(&session)) {
+            opened.acknowledged = opened.acknowledged.max(*mark);
+        }
+    }
+
+    /// In a place that is no longer valid nothing stands.
+    fn forget_invalid(&mut self, cluster: &Cluster) {
+        for (replica, places) in self.standing.iter_mut().enumerate() {
+            for (number, transaction) in (1..).zip(places) {
+                if !is_place(number, &place(cluster.medium(replica), number)) {
+                    *transaction = None;
+                }
+            }
+        }
+    }
+
+    /// The three conclusions.
+    pub fn check(&self) {
+        for (later_number, later) in &self.opened {
+            for (earlier_number, earlier) in self.opened.range(..later_number) {
+                let pair = format!("sessions {earlier_number} and {later_number}");
+                assert!(
+                    earlier.acknowledged <= later.starting,
+                    "{pair}: an acknowledged ID is lost"
+                );
+                self.check_same_bytes(earlier, later, &pair);
+            }
+            for log in &later.logs {
+                self.check_locks(log);
+            }
+        }
+    }
+
+    /// Both hold bytes, and the same bytes, under each ID that both acknowledge.
+    fn check_same_bytes(&self, earlier: &Session, later: &Session, pair: &str) {
+        for id in 1..=earlier.acknowledged.min(later.acknowledged) {
+            for (first, second) in pairs(&earlier.logs, &later.logs) {
+                let (Some(first), Some(second)) = (first.get(&id), second.get(&id)) else {
+                    panic!("{pair}: no bytes under ID {id}");
+                };
+                assert!(first.bytes == second.bytes, "{pair}: other bytes under ID {id}");
+                let issued = self.transactions[first.transaction].bytes;
+                assert!(first.bytes == issued, "{pair}: not the bytes issued under ID {id}");
+            }
+        }
+    }
+
+    /// No transaction shares a lock with one above its client's mark and below its own ID.
+    fn check_locks(&self, log: &Log) {
+        for (id, held) in log {
+            let transaction = &self.transactions[held.transaction];
+            for (other_id, other) in log.range(transaction.client_mark + 1..) {
+                let other = &self.transactions[other.transaction];
+                let shares = transaction.locks.iter().any(|lock| other.locks.contains(lock));
+                assert!(other_id >= id || !shares, "IDs {other_id} and {id} share a lock");
+            }
+        }
+    }
+}
+
+fn pairs<'a, T>(first: &'a [T], second: &'a [T]) -> impl Iterator<Item = (&'a T, &'a T)> {
+    first.iter().flat_map(move |one| second.iter().map(move |other| (one, other)))
+}

@@ -13,3 +13,4 @@ pub mod LogWrites
 pub mod SlotWrites
 pub mod Truncating
 pub mod Promises
+pub mod Fresh

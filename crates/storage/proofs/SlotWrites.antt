@@ -192,3 +192,12 @@ module _ (m : List ℕ) (room : slotsSize ≤ length m) where
       let c′ : currentOf m′ ≡ Second = current-is m′ ∙ ap₂ choice (o .0) (o .1) ∙ alone-second bs (secondOf m) v (choice-second (firstOf m) (secondOf m) (sym (current-is m) ∙ e)) in
       (shown _ _ c′ second-is, stored-by Second m′ c′ ∙ ap slotOf (o .1) ∙ sym (stored-by Second m e))
   slot-torn Neither bs e ne l v = absurd (ne e)
+
+-- two valid slots that hold the same: it is stored
+pub stored-of-two : (m : List ℕ) → validSlot (firstOf m) ≡ true → validSlot (secondOf m) ≡ true → slotOf (firstOf m) ≡ slotOf (secondOf m)
+    → HasSlot m × (storedSlot m ≡ slotOf (firstOf m))
+stored-of-two m va vb e =
+    ⊎-elim
+    (λ h. (shown _ _ (current-is m ∙ h .0) first-is, stored-is m ∙ h .1))
+    (λ h. (shown _ _ (current-is m ∙ h .0) second-is, stored-is m ∙ h .1 ∙ sym e))
+    (either-held (firstOf m) (secondOf m) va vb)

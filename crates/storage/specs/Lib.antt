@@ -5,3 +5,4 @@ pub mod Log
 pub mod Operations
 pub mod AsRead
 pub mod Given
+pub mod Fresh

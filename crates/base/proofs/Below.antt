@@ -1,6 +1,6 @@
 -- Laws of `all`, `count`, `highest` and `upTo`: a turn of the loop that computes them, and what they say.
 -- Assumes nothing.
-use mathlib.Core.Path.{_≡_, refl, sym, _∙_}
+use mathlib.Core.Path.{_≡_, refl, _∙_}
 use mathlib.Core.Bool.{Bool, true, false, _&&_}
 use mathlib.Core.List.{List}
 use mathlib.Core.Logic.{⊎-elim}
@@ -39,6 +39,12 @@ pub count-le : (p : ℕ → Bool) (n : ℕ) → count p n ≤ n
 unfolding count
 count-le p zero = omega arith
 count-le p (suc n) = omega (arith, count-le p n, bit-le (p n))
+
+pub counted-le : (p : ℕ → Bool) (i n : ℕ) → n ≡ count p i → n ≤ i
+counted-le p i n e = rw e (count-le p i)
+
+pub count-room : (p : ℕ → Bool) (i n x : ℕ) → n ≡ count p i → x ≡ bit (p i) → n + x ≤ i + 1
+count-room p i n x e f = counted-le p (i + 1) (n + x) (count-step p i n x e f)
 
 -- two counts against two others, by what holds at each number
 pub count-sum : (p a b d : ℕ → Bool) (n : ℕ) → ((i : ℕ) → i < n → bit (p i) + bit (a i) ≤ bit (b i) + bit (d i)) → count p n + count a n ≤ count b n + count d n

@@ -64,7 +64,7 @@ pub record Exactly (known : ℕ → Bool) (mark : ℕ → ℕ) (r n : ℕ) : Typ
 
 -- "R = 1, 3, 5 or 7", "N places (1 to 1,000)"
 abbrev pub ClusterSize : ℕ → ℕ → Type 0
-ClusterSize r n = ((r ≡ 1) ⊎ ((r ≡ 3) ⊎ ((r ≡ 5) ⊎ (r ≡ 7)))) × (1 ≤ n) × (n ≤ 1000)
+ClusterSize r n = ((r ≡ 1) ⊎ (r ≡ 3) ⊎ (r ≡ 5) ⊎ (r ≡ 7)) × (1 ≤ n) × (n ≤ 1000)
 
 abbrev pub KnownWithin : (ℕ → Bool) → (ℕ → ℕ) → ℕ → ℕ → Type 0
 KnownWithin known mark r n = (i : ℕ) → i < r → known i ≡ true → mark i ≤ n

@@ -43,6 +43,8 @@ pub record Wrote (gs : List Granted) (k id : ℕ) : Type 0 where
   pub locked : List·Memᴰ k (issue .locks)
   pub given : issue .id ≡ id
 
+-- what a table says after granted issues: no estimate is below the starting mark, nor below any ID that wrote its lock, so not below the
+-- last; and a request is granted only if its client's mark is above every ID that wrote one of its locks
 pub record Sound (table : List ℕ) (start : ℕ) (gs : List Granted) : Type 0 where
   pub from-start : (k : ℕ) → start ≤ estimateOf table k
   pub from-writers : (k id : ℕ) → Wrote gs k id → id ≤ estimateOf table k

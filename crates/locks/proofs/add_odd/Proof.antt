@@ -1,3 +1,5 @@
+-- `locks::add_odd` meets its contract. The branch says whether the bit adds a.
+-- Assumes nothing.
 use mathlib.Core.Path.{_∙_}
 use native.Mathlib.Omega.{arith}
 use borrow.Author.Needs.{needs}

@@ -1,3 +1,5 @@
+-- `locks::estimate` meets its contract. The three reads and two comparisons are the definition's.
+-- Assumes nothing.
 use borrow.Author.Needs.{needs}
 use Rattle.locks.specs.Locks.{estimateOf}
 use Rattle.locks.proofs.estimate.Statement.{statement}

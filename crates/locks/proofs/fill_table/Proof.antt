@@ -1,3 +1,5 @@
+-- `locks::fill_table` meets its contract. The loop's invariant: the places below i hold the mark, and the others are as they were.
+-- Assumes nothing.
 use Prim.Native.Nat.{_≤_, _-_}
 use mathlib.Core.Path.{_≡_, refl, _∙_}
 use mathlib.Core.List.{[], _++_, append-nil}

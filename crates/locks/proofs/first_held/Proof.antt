@@ -1,3 +1,5 @@
+-- `locks::first_held` meets its contract. The loop's invariant: the result is that of the locks from i on.
+-- Assumes nothing.
 use Prim.Native.Nat.{_≤_, _-_}
 use mathlib.Core.Path.{_≡_, refl}
 use native.Mathlib.Omega.{arith}

@@ -1,3 +1,5 @@
+-- `locks::lock_place` meets its contract. The top ten bits are the quotient by 2^54, and the factor is read from the table.
+-- Assumes nothing.
 use native.Mathlib.Omega.{arith}
 use borrow.Author.Needs.{needs}
 use Rattle.locks.specs.Locks.{placeOf}

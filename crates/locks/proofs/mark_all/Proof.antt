@@ -1,3 +1,5 @@
+-- `locks::mark_all` meets its contract. The loop's invariant: writing the locks from i on gives the result.
+-- Assumes nothing.
 use Prim.Native.Nat.{_≤_, _-_}
 use mathlib.Core.Path.{_≡_, refl, _∙_}
 use native.Mathlib.Omega.{arith}

@@ -1,3 +1,5 @@
+-- `locks::mark_lock` meets its contract. The three writes are the definition's.
+-- Assumes nothing.
 use borrow.Author.Needs.{needs}
 use Rattle.locks.specs.Locks.{markedAt}
 use Rattle.locks.proofs.mark_lock.Statement.{statement}

@@ -1,3 +1,5 @@
+-- `locks::wrapping_product` meets its contract. The loop's invariant: acc + a × b is the product, modulo 2^64.
+-- Assumes nothing.
 use Prim.Native.Nat.{_+_, _*_, _%_, _^_, _<_}
 use mathlib.Core.Path.{_≡_, _∙_}
 use native.Mathlib.Nat.{zero-add, mod-lt}

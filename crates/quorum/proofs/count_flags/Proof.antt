@@ -1,3 +1,5 @@
+-- `quorum::count_flags` meets its contract. The loop's invariant: n is the count of the flags below i.
+-- Assumes nothing.
 use Prim.Native.Nat.{_≤_, _-_}
 use mathlib.Core.Path.{_≡_, ap, _∙_}
 use native.Mathlib.Omega.{arith}

@@ -1,3 +1,5 @@
+-- `quorum::higher` meets its contract. The branches decide the definition's tests, and the order of the two marks is arithmetic.
+-- Assumes nothing.
 use native.Mathlib.Omega.{arith}
 use borrow.Author.Tests.{le-leb, lt-leb}
 use Rattle.quorum.proofs.higher.Statement.{statement}

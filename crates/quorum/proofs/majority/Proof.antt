@@ -1,3 +1,5 @@
+-- `quorum::majority` meets its contract. The loop's invariant: best is the highest backed mark of the replicas below i.
+-- Assumes nothing.
 use Prim.Native.Nat.{_≤_, _-_}
 use mathlib.Core.Path.{_≡_, ap, _∙_}
 use native.Mathlib.Omega.{arith}

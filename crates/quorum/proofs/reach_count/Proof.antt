@@ -1,3 +1,5 @@
+-- `quorum::reach_count` meets its contract. The loop's invariant: n is the count over the replicas below i.
+-- Assumes nothing.
 use Prim.Native.Nat.{suc, _≤_, _-_}
 use mathlib.Core.Path.{_≡_, ap, _∙_}
 use mathlib.Core.Bool.{cond}

@@ -1,3 +1,5 @@
+-- `quorum::reaches` meets its contract. The two tests are taken apart by the branches.
+-- Assumes nothing.
 use borrow.Author.Needs.{needs}
 use Rattle.quorum.proofs.reaches.Statement.{statement}
 use Rattle.quorum.proofs.reaches.Tie as tie

@@ -1,3 +1,5 @@
+-- `quorum::vote_of` meets its contract. Each return is one of the three laws of a vote by what was counted.
+-- Assumes nothing.
 use native.Mathlib.Omega.{arith}
 use borrow.Author.Needs.{needs}
 use Rattle.base.proofs.Below.{counted-le}

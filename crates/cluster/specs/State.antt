@@ -1,0 +1,114 @@
+-- The state of a cluster as the calls get it, and the parts of it that they name. Document 01, "Words", "Fates", "Register".
+-- Assumes nothing.
+use Prim.Native.Nat.{ℕ, zero, suc, _*_}
+use mathlib.Core.List.{List, [], _++_}
+use mathlib.Core.Bool.{Bool, false, not, _&&_}
+use lib.ListN.{getD, set, replicate}
+use Rattle.octets.specs.Octets.{part, writeAt}
+use Rattle.storage.specs.declared.replica.Closing.the-variants.{Unresolved}
+use Rattle.storage.specs.Sizes.{placeSize}
+use Rattle.storage.specs.Fresh.{freshMedium}
+use Rattle.cluster.specs.declared.Shape.{Shape}
+use Rattle.cluster.specs.declared.Entry.{Entry}
+use Rattle.cluster.specs.declared.Register.{Register}
+use Rattle.cluster.specs.declared.Phase.{Phase}
+use Rattle.cluster.specs.declared.Phase.the-variants.{Idle}
+use Rattle.cluster.specs.declared.Server.{Server}
+use Rattle.cluster.specs.declared.Records.{Records}
+
+-- what a call gets and leaves: register and server records, media, lock tables
+pub record State : Type 0 where
+  pub records : Records
+  pub media : List ℕ
+  pub tables : List ℕ
+
+-- ---- servers
+
+-- a fresh entry: "session 0 unresolved"
+abbrev pub freshEntry : Entry
+freshEntry = record { session = 0; closing = Unresolved }
+
+-- "An idle server's record is all zeros"
+abbrev pub idleServer : Server
+idleServer =
+    record {
+      phase = Idle;
+      session = 0;
+      generation = 0;
+      entries = replicate 7 freshEntry;
+      known = replicate 7 false;
+      dropped = replicate 7 false;
+      marks = replicate 7 0;
+      start = 0;
+      issued = 0;
+      acked = 0;
+      held = replicate placeSize 0;
+    }
+
+-- what an array's element past its end stands for in the logic (no call gets there)
+abbrev pub noServer : Server
+noServer =
+    record {
+      phase = Idle;
+      session = 0;
+      generation = 0;
+      entries = [];
+      known = [];
+      dropped = [];
+      marks = [];
+      start = 0;
+      issued = 0;
+      acked = 0;
+      held = [];
+    }
+
+abbrev pub serverAt : Records → ℕ → Server
+serverAt r s = getD (r .servers) s noServer
+
+abbrev pub putServer : Records → ℕ → Server → Records
+putServer r s v = record { register = r .register; servers = set (r .servers) s v }
+
+abbrev pub putRegister : Records → Register → Records
+putRegister r g = record { register = g; servers = r .servers }
+
+abbrev pub entryAt : List Entry → ℕ → Entry
+entryAt es i = getD es i freshEntry
+
+-- replica i's recorded mark
+abbrev pub markAt : Server → ℕ → ℕ
+markAt v i = getD (v .marks) i 0
+
+-- replica i is known (opening), or a member (open), dropped or not
+abbrev pub memberAt : Server → ℕ → Bool
+memberAt v i = getD (v .known) i false
+
+-- and not dropped
+abbrev pub activeAt : Server → ℕ → Bool
+activeAt v i = getD (v .known) i false && not (getD (v .dropped) i false)
+
+-- ---- lock tables: "Four servers .. each have a lock table of 1,024 64-bit marks, lent together"
+
+abbrev pub tableSize : ℕ
+tableSize = 1024
+
+abbrev pub tableAt : ℕ → List ℕ → List ℕ
+tableAt s tables = part (s * tableSize) tableSize tables
+
+abbrev pub withTable : ℕ → List ℕ → List ℕ → List ℕ
+withTable s t tables = writeAt (s * tableSize) t tables
+
+-- ---- a fresh cluster: "session and generation 0, all entries session 0 unresolved, all servers idle, lock tables 0,
+-- every place wiped, both slots valid with all fields 0"
+
+-- media of r replicas, one after another
+unfoldable pub freshMedia : ℕ → ℕ → List ℕ
+freshMedia zero N = []
+freshMedia (suc r) N = freshMedium N ++ freshMedia r N
+
+unfoldable pub fresh : Shape → State
+fresh h =
+    record {
+      records = record { register = record { session = 0; generation = 0; entries = replicate 7 freshEntry }; servers = replicate 4 idleServer };
+      media = freshMedia (h .replicas) (h .places);
+      tables = replicate (4 * tableSize) 0;
+    }

@@ -1,0 +1,33 @@
+-- One call: unless declined, its effect. This is what the running calls are proved to do and what the guarantee is about.
+-- Assumes nothing.
+use Prim.Native.Nat.{ℕ}
+use mathlib.Core.List.{List}
+use Rattle.cluster.specs.declared.Shape.{Shape}
+use Rattle.cluster.specs.declared.Call.{Call}
+use Rattle.cluster.specs.declared.Call.the-variants as call
+use Rattle.cluster.specs.State.{State}
+use Rattle.cluster.specs.Replies.{Reply, ok, no, silent}
+use Rattle.cluster.specs.Refusals.{Input, rows, Verdict, pass, declined, firstOf}
+use Rattle.cluster.specs.Effects.{Result, noBytes, prepareEffect, trimEffect, noteEffect, readEffect, copyEffect, sendEffect, takeEffect, openEffect, issueEffect, stopEffect, reassignEffect}
+
+-- what each of the eleven calls does
+abbrev pub effect : Shape → State → Input → Call → Result
+effect h x p (call.Take s f) = takeEffect x s f
+effect h x p (call.Prepare s i f) = prepareEffect (h .places) x s i f (p .given)
+effect h x p (call.Copy s a b f) = copyEffect (h .replicas) (h .places) x s a b f (p .given)
+effect h x p (call.Trim s i f) = trimEffect (h .replicas) (h .places) x s i f (p .given)
+effect h x p (call.Open s f) = openEffect (h .replicas) x s f
+effect h x p (call.Issue s q) = issueEffect x s q (p .content) (p .locks)
+effect h x p (call.Send s i f) = sendEffect (h .replicas) (h .places) x s i f (p .given)
+effect h x p (call.Note s i f) = noteEffect (h .places) x s i f (p .given)
+effect h x p (call.Read s i n f) = readEffect (h .places) x s i n f
+effect h x p (call.Stop s) = stopEffect x s
+effect h x p call.Reassign = reassignEffect x
+
+-- "each gives its number and changes nothing"
+unfoldable pub unless : Verdict → State → Result → Result
+unless pass x e = e
+unless (declined n values) x e = record { state = x; reply = no n values; bytes = noBytes }
+
+unfoldable pub step : Shape → State → Input → Result
+step h x p = unless (firstOf (rows h x p)) x (effect h x p (p .call))

@@ -1,0 +1,151 @@
+// What the calls of a cluster get and give: shape, register, server records, calls, answers. All are passed by value.
+ghost use mathlib.Core.Path.{_≡_};
+ghost use Prim.Native.Nat.{_<_};
+ghost use Rattle.cluster.specs.State.{idleServer, putServer};
+use fate::Fate;
+use storage::replica::Closing;
+
+// R, the number of replicas, and N, the places of each medium.
+pub struct Shape {
+    pub replicas: u64,
+    pub places: u64,
+}
+
+// What the register holds of a replica: the session that last set it, and the closing mark or that it is unresolved.
+pub struct Entry {
+    pub session: u64,
+    pub closing: Closing,
+}
+
+pub struct Register {
+    pub session: u64,
+    pub generation: u32,
+    pub entries: [Entry; 7],
+}
+
+pub enum Phase {
+    Idle,
+    Opening,
+    Open,
+}
+
+// A server's record. `entries` are those that take handed over. `known`: the replicas known (opening), the members (open);
+// `dropped`: members that were silent. `marks` are the recorded marks, `held` is the issued record.
+pub struct Server {
+    pub phase: Phase,
+    pub session: u64,
+    pub generation: u32,
+    pub entries: [Entry; 7],
+    pub known: [bool; 7],
+    pub dropped: [bool; 7],
+    pub marks: [u64; 7],
+    pub start: u64,
+    pub issued: u64,
+    pub acked: u64,
+    pub held: [u8; 64],
+}
+
+pub struct Records {
+    pub register: Register,
+    pub servers: [Server; 4],
+}
+
+// What a client asks issue for; data and locks lie beside it.
+pub struct Request {
+    pub mark: u64,
+    pub client: u32,
+    pub generation: u32,
+    pub partition: u32,
+    pub sequence: u32,
+    pub header: u32,
+}
+
+// The eleven calls. The first number is the server's, then come replicas (copy: from, to) and read's ID. Data, locks and the given
+// bytes lie beside it.
+pub enum Call {
+    Take(u64, Fate),
+    Prepare(u64, u64, Fate),
+    Copy(u64, u64, u64, Fate),
+    Trim(u64, u64, Fate),
+    Open(u64, Fate),
+    Issue(u64, Request),
+    Send(u64, u64, Fate),
+    Note(u64, u64, Fate),
+    Read(u64, u64, u64, Fate),
+    Stop(u64),
+    Reassign,
+}
+
+// Why a call is declined, in document 01's order. Locked: the lock and its estimate.
+pub enum Refusal {
+    OutsideShape,
+    MarkAbovePlaces,
+    NoSuchServer,
+    NoSuchReplica,
+    OtherPhase,
+    UnfitFate,
+    ReplicaOut,
+    Undecided,
+    TooFewClean,
+    OtherGeneration,
+    ClientAhead,
+    TooMuch,
+    Unacknowledged,
+    Full,
+    Locked(u64, u64),
+    NothingToDo,
+    UnfitSource,
+    NoSlot,
+    OtherPromise,
+    OtherMark,
+    AtTop,
+    OtherSession,
+}
+
+// The reply: done with no value, done with one, no answer came, or declined.
+pub enum Answer {
+    Done,
+    Value(u64),
+    Silent,
+    Declined(Refusal),
+}
+
+// What a call gives: the records after it, the answer, and the 64 bytes that read answers (zeros for any other reply).
+pub struct Outcome {
+    pub records: Records,
+    pub answer: Answer,
+    pub bytes: [u8; 64],
+}
+
+// An idle server's record is all zeros.
+pub fn idle() -> Server
+    ensures { λ s. ⌜ s ≡ idleServer ⌝ }
+{
+    let none = Entry {
+        session: 0,
+        closing: Closing::Unresolved,
+    };
+    Server {
+        phase: Phase::Idle,
+        session: 0,
+        generation: 0,
+        entries: [none; 7],
+        known: [false; 7],
+        dropped: [false; 7],
+        marks: [0; 7],
+        start: 0,
+        issued: 0,
+        acked: 0,
+        held: [0; 64],
+    }
+}
+
+// The records with one server replaced.
+pub fn put_server(records: Records, i: usize, s: Server) -> Records
+    requires { ⌜ i < 4 ⌝ }
+    ensures { λ r. ⌜ r ≡ putServer records i s ⌝ }
+{
+    let mut next = records;
+    next.servers[i] = s;
+    next
+}

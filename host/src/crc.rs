@@ -1,4 +1,5 @@
-//! CRC-32 of IEEE 802.3, reflected: bit by bit as the reference, and eight bytes a step for everyday use.
+//! CRC-32 of IEEE 802.3, reflected: bit by bit as the reference, and eight bytes a step for
+//! everyday use.
 
 /// The polynomial with its bits reversed, as the reflected form shifts to the right.
 const POLYNOMIAL: u32 = 0xEDB8_8320;
@@ -16,16 +17,16 @@ pub fn bitwise(bytes: &[u8]) -> u32 {
 
 /// The CRC-32 of `bytes`, eight bytes a step.
 pub fn crc32(bytes: &[u8]) -> u32 {
-    let steps = bytes.chunks_exact(STEP);
-    let rest = steps.remainder();
-    let register = steps.fold(!0, step);
+    let (steps, rest) = bytes.as_chunks();
+    let register = steps.iter().fold(!0, step);
     !rest.iter().fold(register, |register, &byte| {
         (register >> 8) ^ TABLES[0][usize::from(register as u8 ^ byte)]
     })
 }
 
-/// The first four bytes meet the register; each of the eight then acts alone, so that eight look-ups do not wait for one another.
-fn step(register: u32, bytes: &[u8]) -> u32 {
+/// The first four bytes meet the register; each of the eight then acts alone, so that the eight
+/// look-ups do not wait for one another.
+fn step(register: u32, bytes: &[u8; STEP]) -> u32 {
     let [r0, r1, r2, r3] = register.to_le_bytes();
     let at = |table: usize, byte: u8| TABLES[table][usize::from(byte)];
     at(7, bytes[0] ^ r0)

@@ -4,7 +4,8 @@ use crate::cluster::MOST_PLACES;
 use crate::locks::{lock_places, TABLE_MARKS};
 use crate::medium::{is_place, PLACE_BYTES};
 
-/// 1 if the bytes are a valid place of this number, otherwise 0, also for another length or a number outside its values.
+/// 1 if the bytes are a valid place of this number, otherwise 0, also for another length or a
+/// number outside its values.
 pub fn place_check(bytes: &[u8], number: u64) -> u64 {
     let fits = bytes.len() == PLACE_BYTES && (1..=MOST_PLACES).contains(&number);
     u64::from(fits && is_place(number, bytes))

@@ -3,7 +3,8 @@
 use crate::medium::PlaceBytes;
 use crate::replica::Write;
 
-/// What a cut write leaves: the slot or place as it was, as it should become, or holding the given bytes.
+/// What a cut write leaves: the slot or place as it was, as it should become, or holding the given
+/// bytes.
 #[derive(Clone, Copy, Debug, PartialEq, Eq)]
 pub enum Left {
     Old,
@@ -34,7 +35,8 @@ pub fn perform(
     }
 }
 
-/// The writes before the cut one happen, later ones do not. A cut behind the last write stops none of them.
+/// The writes before the cut one happen, later ones do not. A cut behind the last write stops none
+/// of them.
 fn cut(
     medium: &mut [u8],
     writes: impl Iterator<Item = Write>,

@@ -1,11 +1,12 @@
-//! A replica's medium: two slots, then places 1 to N. How they are laid out, which of them count, and the log's mark.
+//! A replica's medium: two slots, then places 1 to N. How they are laid out, which of them count,
+//! and the log's mark.
 
 use crate::crc::crc32;
 
-/// Slots and places end with a CRC-32 of the bytes before it.
+/// Slots and places end with a check, the CRC-32 of the bytes before it.
 const CHECK_BYTES: usize = 4;
 
-/// A slot: promised session (8), low-water mark (8), local low-water mark (8), zeros (4), check (4).
+/// A slot: promised session, low-water mark, local low-water mark (8 each), zeros (4), check (4).
 pub const SLOT_BYTES: usize = 32;
 const PROMISE_AT: usize = 0;
 const LOW_AT: usize = 8;
@@ -16,7 +17,8 @@ pub const SLOT_CHECK_AT: usize = SLOT_BYTES - CHECK_BYTES;
 /// Both slots, before the first place.
 pub const SLOTS_BYTES: usize = 2 * SLOT_BYTES;
 
-/// A place: ID (8), client, generation, partition, sequence, header, data length (4 each), data (28), check (4).
+/// A place: ID (8), client, generation, partition, sequence, header, data length (4 each), data
+/// (28), check (4).
 pub const PLACE_BYTES: usize = 64;
 const ID_AT: usize = 0;
 const CLIENT_AT: usize = 8;
@@ -45,8 +47,8 @@ pub const fn medium_bytes(places: usize) -> usize {
 pub fn fresh(places: usize) -> Vec<u8> {
     let mut medium = vec![0; medium_bytes(places)];
     let slot = Slot::default().encode();
-    medium[..SLOT_BYTES].copy_from_slice(&slot);
-    medium[SLOT_BYTES..SLOTS_BYTES].copy_from_slice(&slot);
+    put(&mut medium, 0, &slot);
+    put(&mut medium, SLOT_BYTES, &slot);
     medium
 }
 

@@ -69,7 +69,8 @@ pub enum Operation {
 }
 
 impl Operation {
-    /// The writes in the order in which they are made: at most one of a slot or a record, then a truncation.
+    /// The writes in the order in which they are made: at most one of a slot or a record, then a
+    /// truncation.
     pub fn writes(self, found: Found) -> impl Iterator<Item = Write> {
         let Found { slot, mark, .. } = found;
         let first = match self {

@@ -1,8 +1,10 @@
-//! Storage vectors: lines of input for the proved storage layer, and what this implementation answers to each.
+//! Storage vectors: lines of input for the proved storage layer, and what this implementation
+//! answers to each.
 //!
-//! A line is a command word and its fields with a tab before each; numbers in base ten, bytes as capital hexadecimal
-//! digits. FATE stands for four fields: 0 answered, 1 lost, 2 answer lost or 3 cut; the write w; 0 old, 1 new or
-//! 2 torn; the 64 given bytes. MEDIUM is the bytes of a medium of N places.
+//! A line is a command word and its fields with a tab before each; numbers in base ten, bytes as
+//! capital hexadecimal digits. FATE stands for four fields: 0 answered, 1 lost, 2 answer lost or 3
+//! cut; the write w; 0 old, 1 new or 2 torn; the 64 given bytes. MEDIUM is the bytes of a medium of
+//! N places.
 //!
 //! | command | fields | answer |
 //! |---|---|---|
@@ -17,7 +19,8 @@
 //! | truncate | N, to, FATE, MEDIUM | the medium after it |
 //! | note | N, low-water mark, local low-water mark, FATE, MEDIUM | the medium after it |
 //!
-//! prepare and note come with a valid slot, prepare with a promise not above the session, append with a mark below N.
+//! prepare and note come with a valid slot, prepare with a promise not above the session, append
+//! with a mark below N.
 
 mod answers;
 mod cases;

@@ -22,8 +22,8 @@ pub fn highest_reached(count: usize, marks: impl Iterator<Item = u64>) -> Option
     held.checked_sub(count).map(|at| sorted[at])
 }
 
-/// The majority mark of one mark per replica, `None` for those that are not known, if it is decided: no replica that
-/// is not known could lift a higher mark to a majority.
+/// The majority mark of one mark per replica, `None` for those that are not known, if it is
+/// decided: no replica that is not known could lift a higher mark to a majority.
 pub fn decided(marks: &[Option<u64>]) -> Option<u64> {
     let known = || marks.iter().copied().flatten();
     let majority = highest_reached(quorum(marks.len()), known())?;

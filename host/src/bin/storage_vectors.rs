@@ -1,4 +1,5 @@
-//! Prints the storage vectors (`input`), the answers to them (`output`), or the answers to standard input (`answer`).
+//! Prints the storage vectors (`input`), the answers to them (`output`), or the answers to standard
+//! input (`answer`).
 
 use std::io::{self, Read, Write};
 use std::process::ExitCode;

@@ -12,7 +12,7 @@ pub struct Message {
 }
 
 impl Message {
-    /// A message that is not cut, so that no bytes are needed.
+    /// With zeros as given bytes, which pass as no slot and no place.
     pub fn new(fate: Fate) -> Message {
         Message { fate, given: WIPED }
     }

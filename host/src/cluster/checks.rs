@@ -1,4 +1,5 @@
-//! Reasons to decline that several calls share. Each call lists its own in the order of their numbers.
+//! Reasons to decline that several calls share. Each call lists its own in the order of their
+//! numbers.
 
 use super::{Cluster, Entry, Message, Phase, Refusal, Standing, SERVERS};
 use crate::fate::{Fate, Left};
@@ -78,8 +79,9 @@ pub(super) fn check_uncut(fate: Fate) -> Result<(), Refusal> {
     Refusal::UnfitFate.when(matches!(fate, Fate::Cut(..)))
 }
 
-/// What the receiver of a message judged, as far as it acts on it: `None` if the message never arrives, or if it
-/// declines and nobody hears of it. A decline is seen only if the message is answered.
+/// What the receiver of a message judged, as far as it acts on it: `None` if the message never
+/// arrives, or if it declines and nobody hears of it. A decline is seen only if the message is
+/// answered.
 pub(super) fn received<T>(fate: Fate, judged: Result<T, Refusal>) -> Result<Option<T>, Refusal> {
     match fate {
         Fate::Answered => judged.map(Some),

@@ -6,7 +6,8 @@ use crate::fate::Fate;
 use crate::votes::MOST_REPLICAS;
 
 impl Cluster {
-    /// Raises the session and makes an idle server an opening one that knows no replica; answers the session.
+    /// Raises the session and makes an idle server an opening one that knows no replica; answers
+    /// the session.
     pub fn take(&mut self, server: u64, fate: Fate) -> Reply {
         let server = self.check_server(server)?;
         self.check_phase(server, &[Phase::Idle])?;
@@ -29,7 +30,8 @@ impl Cluster {
         Ok(Answer::Number(register.session))
     }
 
-    /// Opens the session at the decided mark with the replicas exactly at it as members; answers the mark.
+    /// Opens the session at the decided mark with the replicas exactly at it as members; answers
+    /// the mark.
     pub fn open(&mut self, server: u64, fate: Fate) -> Reply {
         let server = self.check_server(server)?;
         self.check_phase(server, &[Phase::Opening])?;
@@ -60,7 +62,8 @@ impl Cluster {
         })
     }
 
-    /// Clean entries become this session's; other unresolved ones are closed at the mark; the rest remain.
+    /// Clean entries become this session's; other unresolved ones are closed at the mark; the rest
+    /// remain.
     fn register_opening(&mut self, session: u64, mark: u64, clean: [bool; MOST_REPLICAS]) {
         let entries = &mut self.records.register.entries[..self.shape.replicas as usize];
         for (entry, clean) in entries.iter_mut().zip(clean) {

@@ -8,8 +8,8 @@ use crate::replica::{Found, Operation};
 use crate::votes::highest_reached;
 
 impl Cluster {
-    /// The replica promises the session and truncates to its entry's closing mark; it answers its mark
-    /// and is known.
+    /// The replica promises the session and truncates to its entry's closing mark; it answers its
+    /// mark and is known.
     pub fn prepare(&mut self, server: u64, replica: u64, message: &Message) -> Reply {
         let (server, replica) = self.check_addressed(server, replica, Phase::Opening)?;
         self.check_message(message)?;
@@ -21,8 +21,8 @@ impl Cluster {
         Ok(self.hear(server, replica, heard))
     }
 
-    /// Writes the record behind `to`'s mark there as it stands on `from`; answers `to`'s mark, or once
-    /// open the acknowledged one.
+    /// Writes the record behind `to`'s mark there as it stands on `from`; answers `to`'s mark, or
+    /// once open the acknowledged one.
     pub fn copy(&mut self, server: u64, from: u64, to: u64, message: &Message) -> Reply {
         let server = self.check_server(server)?;
         let (from, to) = (self.check_replica(from)?, self.check_replica(to)?);
@@ -96,8 +96,8 @@ impl Cluster {
         Ok((server, replica))
     }
 
-    /// send's and copy's message and its effect on the acknowledged mark, which an open server computes
-    /// anew even after silence.
+    /// send's and copy's message and its effect on the acknowledged mark, which an open server
+    /// computes anew even after silence.
     fn append(
         &mut self,
         server: usize,
@@ -117,7 +117,8 @@ impl Cluster {
         })
     }
 
-    /// The highest mark that a quorum of members reaches, dropped ones included; 0 without a quorum of members.
+    /// The highest mark that a quorum of members reaches, dropped ones included; 0 without a quorum
+    /// of members.
     fn reached_by_members(&self, server: usize) -> u64 {
         let record = &self.records.servers[server];
         let members = (0..self.replicas()).filter(|&i| record.standings[i] != Standing::Out);
@@ -163,8 +164,8 @@ impl Cluster {
         Ok(answered.then(|| medium::mark_above(medium, operation.keeps(found.mark))))
     }
 
-    /// What the server makes of the replica's answer. An opening server forgets a silent replica, an
-    /// open one drops it; one that answers is known or still a member.
+    /// What the server makes of the replica's answer. An opening server forgets a silent replica,
+    /// an open one drops it; one that answers is known or still a member.
     fn hear(&mut self, server: usize, replica: usize, heard: Option<u64>) -> Answer {
         let record = &mut self.records.servers[server];
         let Some(mark) = heard else {

@@ -19,26 +19,37 @@ pub enum Answer {
 /// Why a call is declined, in the order in which the reasons are checked.
 #[derive(Clone, Copy, Debug, PartialEq, Eq)]
 pub enum Refusal {
+    /// R, N or the length of a lent slice.
     OutsideShape,
     MarkAbovePlaces,
     NoSuchServer,
+    /// Or copy names one twice.
     NoSuchReplica,
     OtherPhase,
+    /// A cut that cannot be, or torn bytes that pass as a slot or place.
     UnfitFate,
+    /// Not known, no member, or dropped.
     ReplicaOut,
     Undecided,
     TooFewClean,
     OtherGeneration,
     ClientAhead,
+    /// Data or locks.
     TooMuch,
     Unacknowledged,
     Full,
-    Locked { lock: u64, estimate: u64 },
+    /// The first lock whose estimate is not below the client's mark.
+    Locked {
+        lock: u64,
+        estimate: u64,
+    },
     NothingToDo,
+    /// The replica that copy reads would decline.
     UnfitSource,
     NoSlot,
     OtherPromise,
     OtherMark,
+    /// A number that cannot be raised.
     AtTop,
     OtherSession,
 }

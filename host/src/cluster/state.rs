@@ -100,7 +100,8 @@ pub struct Records {
     pub servers: [Server; SERVERS],
 }
 
-/// All that a call gets. Any values and lengths may be handed in; the calls decline what does not fit.
+/// All that a call gets. Any values and lengths may be handed in; the calls decline what does not
+/// fit.
 #[derive(Clone, Debug, PartialEq, Eq)]
 pub struct Cluster {
     pub shape: Shape,
@@ -136,7 +137,7 @@ impl Cluster {
         &self.media[replica * bytes..][..bytes]
     }
 
-    pub(super) fn medium_mut(&mut self, replica: usize) -> &mut [u8] {
+    pub fn medium_mut(&mut self, replica: usize) -> &mut [u8] {
         let bytes = self.shape.medium_bytes();
         &mut self.media[replica * bytes..][..bytes]
     }

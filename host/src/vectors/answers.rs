@@ -6,7 +6,8 @@ use crate::hex;
 use crate::medium::{self, PlaceBytes, Record, Slot};
 use crate::replica::{Found, Operation};
 
-/// The answers to all lines of `input`, a line each. The input is trusted to have the vectors' forms.
+/// The answers to all lines of `input`, a line each. The input is trusted to have the vectors'
+/// forms.
 pub fn output(input: &str) -> String {
     input.lines().map(|line| answer(line) + "\n").collect()
 }

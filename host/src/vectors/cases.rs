@@ -1,4 +1,5 @@
-//! The list of vectors: fixed cases around every rule of the storage layer, filled with bytes from a fixed seed.
+//! The list of vectors: fixed cases around every rule of the storage layer, filled with bytes from
+//! a fixed seed.
 
 use super::PUBLISHED;
 use crate::crc::crc32;
@@ -220,8 +221,8 @@ impl Cases {
         self.line(format!("medium\t{}\t{}", log.len(), hex::encode(&medium)));
     }
 
-    /// A medium with a place for each letter: v valid, . wiped, x valid but for one bit, w valid under another
-    /// number, r any bytes.
+    /// A medium with a place for each letter: v valid, . wiped, x valid but for one bit, w valid
+    /// under another number, r any bytes.
     fn medium_bytes(&mut self, slots: [SlotBytes; 2], log: &str) -> Vec<u8> {
         let mut medium = slots.concat();
         for (number, letter) in (1..).zip(log.chars()) {

@@ -1,4 +1,5 @@
-//! CRC-32 values that others have published: RFC-style test strings, catalogues of CRC algorithms, AUTOSAR's table.
+//! CRC-32 values that others have published: RFC-style test strings, catalogues of CRC algorithms,
+//! AUTOSAR's table.
 
 pub const PUBLISHED: [(&[u8], u32); 24] = [
     (b"123456789", 0xCBF4_3926),

@@ -31,7 +31,8 @@ impl Caller {
         }
     }
 
-    /// Mostly the server of the newest session, so that sessions get somewhere; the others interfere.
+    /// Mostly the server of the newest session, so that sessions get somewhere; the others
+    /// interfere.
     fn draw_server(&self, random: &mut Random, cluster: &Cluster) -> u64 {
         let session = |&server: &u64| cluster.records.servers[server as usize].session;
         let newest = (0..self.servers).max_by_key(session);
@@ -136,7 +137,8 @@ fn draw_usable(random: &mut Random, cluster: &Cluster, server: u64) -> u64 {
     }
 }
 
-/// Few locks and clients that have read most of the log, so that locks collide and are still granted.
+/// Few locks and clients that have read most of the log, so that locks collide and are still
+/// granted.
 fn draw_request(random: &mut Random, record: &Server) -> Request {
     let behind = *random.pick(&[0, 0, 0, 1, 2]);
     let ahead = u64::from(random.chance(40));

@@ -90,7 +90,8 @@ impl History {
         self.sessions[server as usize]
     }
 
-    /// A session is opened when an open call of it changes the register, even if the answer is lost.
+    /// A session is opened when an open call of it changes the register, even if the answer is
+    /// lost.
     fn open(&mut self, server: u64, before: &Cluster, after: &Cluster) {
         if before.records.register == after.records.register {
             return;

@@ -1,5 +1,5 @@
-//! The guarantee between sessions, on long random lists of calls from fresh clusters: every fate, a cut
-//! at any write, old servers that go on talking.
+//! The guarantee between sessions, on long random lists of calls from fresh clusters: every fate, a
+//! cut at any write, old servers that go on talking.
 
 mod caller;
 mod history;

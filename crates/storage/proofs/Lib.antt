@@ -14,3 +14,4 @@ pub mod SlotWrites
 pub mod Truncating
 pub mod Promises
 pub mod Fresh
+pub mod Marks

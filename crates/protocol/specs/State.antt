@@ -1,7 +1,9 @@
 -- The protocol's state, and the fresh cluster. There are no bytes: a log is a mark and the transaction in each place.
--- Places and IDs count from 1, as in the document; place 0 of every log holds `blank` and is nobody's transaction.
--- What a server keeps is indexed by its session: no two servers ever hold one session number, and a server takes a new one each time.
--- Two columns are kept only for the proof: `newest`, and `base`. Assumes nothing.
+-- Places and IDs count from 1, as in document 01; place 0 of every log holds `blank` and is nobody's transaction.
+-- What a server keeps is indexed by its session: no two servers ever hold one session number, and an idle server has nothing to keep.
+-- The columns of opened sessions outlive their servers: they are the history of which the guarantee speaks.
+-- `newest` and `base` stand in no record of the cluster; the proof uses them. Only the counts look at R.
+-- Assumes nothing.
 use mathlib.Core.Bool.{Bool, true, false}
 use mathlib.Core.List.{List, [], List·Memᴰ}
 use Prim.Native.Nat.{ℕ}
@@ -9,7 +11,7 @@ use lib.Dec.{eqb}
 
 -- An issue call: "A transaction's locks and client mark are those of its issue call, not of another with equal bytes."
 pub record Tx : Type 0 where
-  pub bytes : List ℕ
+  pub bytes : List ℕ  -- of its record
   pub locks : List ℕ
   pub client-mark : ℕ
 
@@ -35,8 +37,8 @@ pub record State : Type 0 where
   -- the servers, by their sessions
   pub phase : ℕ → Phase
   pub base : ℕ → ℕ  -- session: the newest opened one when it was taken
-  pub handed-unresolved : ℕ → ℕ → Bool  -- session, replica: the entries that the take handed over
-  pub handed-closing : ℕ → ℕ → ℕ
+  pub handed-unresolved : ℕ → ℕ → Bool  -- session, replica: the entry that the take handed over is unresolved
+  pub handed-closing : ℕ → ℕ → ℕ  -- their closing marks; read only where resolved
   pub known : ℕ → ℕ → Bool  -- session, replica; read only while opening
   pub recorded : ℕ → ℕ → ℕ  -- session, replica: the recorded mark; read only of known replicas, and of members once opened
   -- the opened sessions

@@ -136,7 +136,15 @@ pub fn prepare(m: &mut [u8], places: u64, session: u64, to: Closing, given: &[u8
 }
 
 // trim, to a mark.
-pub fn trim(m: &mut [u8], places: u64, session: u64, recorded: u64, to: u64, given: &[u8], f: Fate) -> Heard
+pub fn trim(
+    m: &mut [u8],
+    places: u64,
+    session: u64,
+    recorded: u64,
+    to: u64,
+    given: &[u8],
+    f: Fate,
+) -> Heard
     requires { ⌜ Lent places (length (now m)) (length (now given)) ⌝ }
     ensures { λ h. ⌜ told h (now (m .exit)) ≡ trimTold places session recorded to f (now (given .entry)) (now (m .entry)) ⌝ }
 {
@@ -152,7 +160,15 @@ pub fn trim(m: &mut [u8], places: u64, session: u64, recorded: u64, to: u64, giv
 }
 
 // note: the low-water mark, with the recorded mark as the local one.
-pub fn note(m: &mut [u8], places: u64, session: u64, recorded: u64, low: u64, given: &[u8], f: Fate) -> Heard
+pub fn note(
+    m: &mut [u8],
+    places: u64,
+    session: u64,
+    recorded: u64,
+    low: u64,
+    given: &[u8],
+    f: Fate,
+) -> Heard
     requires { ⌜ Lent places (length (now m)) (length (now given)) ⌝ }
     ensures { λ h. ⌜ told h (now (m .exit)) ≡ noteTold places session recorded low f (now (given .entry)) (now (m .entry)) ⌝ }
 {
@@ -171,8 +187,8 @@ pub fn note(m: &mut [u8], places: u64, session: u64, recorded: u64, low: u64, gi
 fn mark_after(t: &Tables, m: &[u8], places: u64, known: usize, f: Fate) -> u64
     requires { ⌜ now t ≡ tablesOf ⌝ }
     requires { ⌜ (places ≤ 1000) × (length (now m) ≡ mediumSize places) ⌝ }
-    requires { ⌜ answered f ≡ true → known ≤ markOf places (now m) ⌝ }
-    ensures { λ k. ⌜ answered f ≡ true → k ≡ markOf places (now (m .entry)) ⌝ }
+    requires { ⌜ (answered f ≡ true → known ≤ markOf places (now m)) ⌝ }
+    ensures { λ k. ⌜ (answered f ≡ true → k ≡ markOf places (now (m .entry))) ⌝ }
 {
     if answers(f) {
         return medium::mark_from(t, m, places as usize, known) as u64;
@@ -181,7 +197,15 @@ fn mark_after(t: &Tables, m: &[u8], places: u64, known: usize, f: Fate) -> u64
 }
 
 // send and copy: a record in the place behind the recorded mark.
-pub fn append(m: &mut [u8], places: u64, session: u64, recorded: u64, src: &[u8], given: &[u8], f: Fate) -> Heard
+pub fn append(
+    m: &mut [u8],
+    places: u64,
+    session: u64,
+    recorded: u64,
+    src: &[u8],
+    given: &[u8],
+    f: Fate,
+) -> Heard
     requires { ⌜ Lent places (length (now m)) (length (now given)) ⌝ }
     requires { ⌜ (recorded < places) × (length (now src) ≡ placeSize) ⌝ }
     ensures { λ h. ⌜ told h (now (m .exit)) ≡ appendTold places session recorded (now (src .entry)) f (now (given .entry)) (now (m .entry)) ⌝ }

@@ -1,0 +1,3 @@
+// The journal as a library.
+
+pub mod exported;

@@ -1,3 +1,4 @@
 pub mod Tops
 pub mod Taken
 pub mod Framed
+pub mod Opened

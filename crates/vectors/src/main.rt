@@ -84,6 +84,6 @@ fn run(t: &Tables, held: &mut [u8])
 
 fn main() {
     let t = crc32::tables();
-    let mut held = [0u8; LIMIT];
-    run(&t, &mut held);
+    let mut held = io::buffer();
+    run(&t, &mut held[0..LIMIT]);
 }

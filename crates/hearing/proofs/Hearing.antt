@@ -4,7 +4,7 @@ use mathlib.Core.Path.{_≡_, refl, sym, ap, _∙_}
 use mathlib.Core.Bool.{Bool, true, false, cond, _&&_, _||_}
 use mathlib.Core.List.{List, [], _∷_}
 use mathlib.Core.Logic.{⊎-elim}
-use Prim.Native.Nat.{ℕ, _+_, _*_, _≤_}
+use Prim.Native.Nat.{ℕ, _+_, _-_, _*_, _≤_}
 use native.Mathlib.Omega.{arith}
 use types.Run.{OneOf}
 use denote.Enum.Declared.{tagOf}
@@ -16,7 +16,8 @@ use Rattle.replica.proofs.Heard.{the-type}
 use lib.ListN.{length, take, drop, take-append-drop}
 use lib.Seq.{drop-drop}
 use Rattle.octets.specs.Octets.{part, writeAt}
-use Rattle.octets.proofs.Laws.{length-part}
+use Rattle.octets.proofs.Laws.{length-part, between-part, mid-write}
+use borrow.Rule.Slice.PartMut.{putMid}
 use Rattle.fate.specs.declared.Fate.{Fate}
 use Rattle.fate.specs.Fates.{Write}
 use Rattle.storage.specs.Sizes.{mediumSize}
@@ -44,13 +45,30 @@ not-heard r done other quiet Silent t = refl
 not-heard r done other quiet (Declined why) t = refl
 not-heard r done other quiet (Mark n) t = absurd (⊎-elim (λ e. omega arith) (λ e. omega arith) t)
 
--- ---- what is heard, and what the message does
+-- ---- one medium of the media
+
+-- what `&mut media[at..end]` lends of replica i, and what it leaves when it comes back
+module _ (N i : ℕ) (media : List ℕ) where
+  abbrev pub lent : List ℕ
+  lent = take ((i * mediumSize N + mediumSize N) - i * mediumSize N) (drop (i * mediumSize N) media)
+
+  abbrev pub back : List ℕ → List ℕ
+  back m = putMid (i * mediumSize N) ((i * mediumSize N + mediumSize N) - i * mediumSize N) media m
+
+  pub lent-is : lent ≡ mediumAt N i media
+  lent-is = between-part (i * mediumSize N) (mediumSize N) media
+
+  pub back-is : i * mediumSize N + mediumSize N ≤ length media → (m : List ℕ) → length m ≡ length lent → back m ≡ withMedium N i m media
+  back-is fits m e =
+      let size : length lent ≡ mediumSize N = ap length lent-is ∙ length-part (i * mediumSize N) (mediumSize N) media fits in
+      mid-write (i * mediumSize N) (i * mediumSize N + mediumSize N) media m m (omega arith) refl
 
 -- a part written where it stands
-pub write-back : (o n : ℕ) (m : List ℕ) → o + n ≤ length m → writeAt o (part o n m) m ≡ m
+write-back : (o n : ℕ) (m : List ℕ) → o + n ≤ length m → writeAt o (part o n m) m ≡ m
 unfolding writeAt
-write-back o n m l =
-    rw (length-part o n m l, ← (drop-drop n o m), take-append-drop n (drop o m), take-append-drop o m)
+write-back o n m l = rw (length-part o n m l, ← (drop-drop n o m), take-append-drop n (drop o m), take-append-drop o m)
+
+-- ---- what is heard, and what the message does
 
 module _ (r : Records) (media tables : List ℕ) where
   -- the number n is answered, a decline is reported and leaves the media, or the replica is silent

@@ -1,0 +1,4 @@
+pub mod Hearing
+pub mod Stages
+pub mod Votes
+pub mod Places

@@ -1,4 +1,5 @@
 // The journal as a library.
 
 pub mod exported;
+
 pub use register::take::take;

@@ -5,7 +5,7 @@ use lib.ListN.{replicate}
 use Rattle.base.proofs.Below.{upTo-at}
 use Rattle.cluster.specs.State.{activeAt, markAt}
 use Rattle.quorum.specs.Vote.{flagsOf}
-use Rattle.hearing.proofs.Votes.{vote-same}
+use Rattle.quorum.proofs.Same.{vote-same}
 use borrow.Author.Needs.{needs}
 use Rattle.hearing.proofs.vote_among.Statement.{statement}
 use Rattle.hearing.proofs.vote_among.Tie as tie
@@ -21,7 +21,7 @@ returns c =
     let v = c .before .before .before .args .v in
     let p = c .before .before .before .pre in
     c .vote-of .ensures
-    ∙ vote-same (flagsOf (c .before .active-flags .result)) (activeAt v) (markAt v) (c .before .before .before .args .r)
+    ∙ vote-same (c .before .before .before .args .r) (flagsOf (c .before .active-flags .result)) (activeAt v) (markAt v)
     (λ i l. rw (c .before .active-flags .ensures) (upTo-at (activeAt v) (replicate 7 false) 7 i false (omega arith) (omega arith)))
 
 pub vote-among-spec : {M : Type 1} → statement M

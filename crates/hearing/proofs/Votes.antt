@@ -6,7 +6,7 @@ use Prim.Native.Nat.{ℕ, zero, suc, _<_}
 use native.Mathlib.Omega.{arith}
 use lib.Dec.{leb}
 use Rattle.base.specs.Below.{count, highest}
-use Rattle.quorum.specs.Vote.{quorum, reach, backed, majorityMark, decided, voteOf}
+use Rattle.quorum.specs.Vote.{reach, backed, majorityMark, decided, voteOf}
 
 count-same : (p q : ℕ → Bool) (n : ℕ) → ((i : ℕ) → i < n → p i ≡ q i) → count p n ≡ count q n
 unfolding count

@@ -1,7 +1,7 @@
 -- What is heard of an append, and the media then, are what is left of the call beyond refusal 17; and what copy's tests say.
 -- Assumes nothing.
-use mathlib.Core.Path.{_≡_, refl}
-use mathlib.Core.Bool.{Bool, true, false, not, _||_}
+use mathlib.Core.Path.{_≡_}
+use mathlib.Core.Bool.{true, false, not, _||_}
 use mathlib.Core.List.{List}
 use Prim.Native.Nat.{ℕ, _+_, _*_, _≤_, _<_}
 use native.Mathlib.Omega.{arith}
@@ -23,6 +23,7 @@ use Rattle.cluster.specs.Effects.{Result, appendEffect}
 use Rattle.cluster.specs.Step.{unless}
 use Rattle.replica.specs.declared.Heard.{Heard}
 use Rattle.replica.specs.Messages.{told, appendTold}
+use Rattle.admit.proofs.Sizes.{neither}
 use Rattle.admit.specs.Results.{stateOf, inputOf, resultOf, declinedOf}
 use Rattle.hearing.specs.Stages.{unlessAbove, beyond}
 use Rattle.hearing.specs.Hearing.{onHeard}
@@ -57,13 +58,9 @@ pub copy-room : (mark source N : ℕ) → not (ltb mark source) ≡ false → so
 copy-room mark source N e l = omega (arith, ltb-true mark source (not-false (ltb mark source) e))
 
 -- 4 of copy
-or-neither : (a b : Bool) → (a || b) ≡ false → (a ≡ false) × (b ≡ false)
-or-neither true b e = let z : _≡_ {A = ℕ} 0 1 = cc in absurd (omega arith)
-or-neither false b e = (refl, e)
-
 pub both-named : (r a b : ℕ) → (leb r a || leb r b || eqb a b) ≡ false → (a < r) × (b < r)
 both-named r a b e =
-    let q = or-neither (leb r a) (leb r b) (or-neither (leb r a || leb r b) (eqb a b) e .0) in
+    let q = neither (leb r a) (leb r b) (neither (leb r a || leb r b) (eqb a b) e .0) in
     (leb-false r a (q .0), leb-false r b (q .1))
 
 -- 17

@@ -1,8 +1,8 @@
 -- A call that one of its tests declines, a call that goes on, and what refusals 1 to 5 leave known.
 -- Assumes nothing.
 use mathlib.Core.Path.{_≡_, refl, sym, ap, _∙_}
-use mathlib.Core.Bool.{Bool, true, false, not, cond, _&&_, _||_}
-use mathlib.Core.List.{List, [], _∷_, _++_}
+use mathlib.Core.Bool.{Bool, true, false, not, _&&_}
+use mathlib.Core.List.{List, [], _∷_}
 use Prim.Native.Nat.{ℕ, _+_, _*_, _≤_, _<_}
 use native.Mathlib.Nat.{mul-le-mul}
 use native.Mathlib.Omega.{arith}
@@ -22,10 +22,10 @@ use Rattle.cluster.specs.declared.Server.{Server}
 use Rattle.cluster.specs.declared.Refusal.{Refusal}
 use Rattle.cluster.specs.declared.Outcome.{Outcome}
 use Rattle.cluster.specs.State.{State, serverAt, markAt}
-use Rattle.cluster.specs.Refusals.{Input, outside, entriesFit, serverFits, markAbove, serverOf, badReplica, isIdle, isOpening, isOpen, wrongPhase, Row, row, rows, Verdict, pass, declined, firstOf, andThen}
+use Rattle.cluster.specs.Refusals.{Input, outside, entriesFit, serverFits, markAbove, serverOf, badReplica, isIdle, isOpening, isOpen, wrongPhase, Row, row, rows, firstOf, andThen}
 use Rattle.cluster.specs.Effects.{Result}
 use Rattle.cluster.specs.Step.{unless, step}
-use Rattle.cluster.proofs.Rows.{firstOf-append, passed}
+use Rattle.cluster.proofs.Rows.{firstOf-append, Passed, passed}
 use Rattle.admit.specs.declared.Check.{Check}
 use Rattle.admit.specs.declared.Check.the-variants.{Pass, Refuse}
 use Rattle.admit.specs.declared.Phases.{Phases}
@@ -40,6 +40,10 @@ split ws n m =
     ap firstOf (sym (take-append-drop m (drop n ws)))
     ∙ firstOf-append (take m (drop n ws)) (drop m (drop n ws))
     ∙ ap (andThen (firstOf (take m (drop n ws)))) (drop-drop m n ws)
+
+-- what a check that passed says of its rows
+pub passes : (ws : List Row) {k : Check} → verdictOf k ≡ firstOf ws → k ≡ Pass → Passed ws
+passes ws v q = passed ws (sym v ∙ ap verdictOf q)
 
 -- k is the verdict of numbers n + 1 to n + m
 abbrev Tested : Shape → State → Input → Check → ℕ → ℕ → Type 0
@@ -150,7 +154,7 @@ pub named :
     → verdictOf k ≡ firstOf (firstFive h r media tables s unnamed phases) → k ≡ Pass → (unnamed ≡ false → i < h .replicas)
     → Named h r media s i
 named h r media tables s i unnamed phases v q b =
-    let p = passed (firstFive h r media tables s unnamed phases) (sym v ∙ ap verdictOf q) in
+    let p = passes (firstFive h r media tables s unnamed phases) v q in
     let w = within h media tables (p .0) in
     let j = b (p .1 .1 .1 .0) in
     let l : s < 4 = omega (arith, ltb-false 3 s (p .1 .1 .0)) in

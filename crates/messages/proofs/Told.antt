@@ -28,6 +28,7 @@ use Rattle.cluster.specs.Effects.{Result, prepareEffect, trimEffect, noteEffect
 use Rattle.cluster.specs.Step.{unless}
 use Rattle.replica.specs.declared.Heard.{Heard}
 use Rattle.replica.specs.Messages.{Told, told, prepareTold, messageTold, trimTold, noteTold, readTold}
+use Rattle.admit.proofs.Sizes.{neither}
 use Rattle.admit.specs.Results.{stateOf, inputOf, resultOf, declinedOf}
 use Rattle.hearing.specs.Stages.{unlessAbove, beyond}
 use Rattle.hearing.specs.Hearing.{onHeard, marked, unmarked}
@@ -143,14 +144,10 @@ module _ (h : Shape) (r : Records) (media tables : List ℕ) (s i : ℕ) (f : Fa
 
 -- ---- read's own test
 
-or-neither : (a b : Bool) → (a || b) ≡ false → (a ≡ false) × (b ≡ false)
-or-neither true b e = let z : _≡_ {A = ℕ} 0 1 = cc in absurd (omega arith)
-or-neither false b e = (refl, e)
-
 -- 16 passed: the place is one of the medium's
 pub readable : (v : Server) (i n : ℕ) → nothingToRead v i n ≡ false → (1 ≤ n) × (n ≤ markAt v i)
 readable v i n e =
-    let a = or-neither (eqb n 0 || ltb (markAt v i) n) (ltb (v .acked) n) e in
-    let b = or-neither (eqb n 0) (ltb (markAt v i) n) (a .0) in
+    let a = neither (eqb n 0 || ltb (markAt v i) n) (ltb (v .acked) n) e in
+    let b = neither (eqb n 0) (ltb (markAt v i) n) (a .0) in
     let z = eqb-false n 0 (b .0) in
     ((⊎-elim (λ (l : n < 1). absurd (z (omega arith))) (λ l. l) (lt-or-le n 1)), ltb-false (markAt v i) n (b .1))

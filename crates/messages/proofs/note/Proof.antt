@@ -1,4 +1,3 @@
-use lib.Dec.{leb}
 use borrow.Author.Tests.{leb-false}
 use Rattle.hearing.proofs.Stages.{refused-first, goes-on-first, open-only, named}
 use borrow.Author.Needs.{needs}

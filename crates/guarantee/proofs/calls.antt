@@ -1,0 +1,3 @@
+-- Each call as a list of events of the protocol, under every fate.
+-- Assumes nothing.
+pub mod Stop

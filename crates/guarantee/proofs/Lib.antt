@@ -7,6 +7,7 @@
 --   Frames     a call that touches one replica, one server or one session leaves only that one's tie to show
 --   Passing    a call that is not declined, and what each condition of the list says when it does not hold
 --   Counts     the counts of the two agree: decided, acknowledged
+--   Facts      what several calls read off the tie and the invariant
 --   Played     what each call's proof is given and has to show
 --   calls/     the calls, one file each; Stop is the shortest
 --   Blocks     media and lock tables in their slices
@@ -16,5 +17,6 @@ pub mod Blocks
 pub mod Frames
 pub mod Passing
 pub mod Counts
+pub mod Facts
 pub mod Played
 pub mod calls

@@ -4,9 +4,12 @@ use mathlib.Core.Path.{_≡_, refl, sym, ap, _∙_}
 use mathlib.Core.Logic.{_⊎_, inl, inr, ⊎-elim, _≢_}
 use mathlib.Core.Bool.{Bool, true, false}
 use mathlib.Core.List.{List}
-use Prim.Native.Nat.{ℕ, suc, _≤_, _<_}
+use Prim.Native.Nat.{ℕ, suc, _+_, _-_, _≤_, _<_}
 use native.Mathlib.Omega.{arith}
 use lib.ListN.{getD}
+use Rattle.storage.specs.Places.{validPlace}
+use Rattle.storage.specs.Log.{placeAt, markOf}
+use Rattle.storage.proofs.Scan.{log-valid}
 use Rattle.protocol.specs.State as protocol
 use Rattle.protocol.proofs.Invariant.{Inv}
 use Rattle.cluster.specs.declared.Shape.{Shape}
@@ -34,6 +37,12 @@ open-lives v p e = let z : _≡_ {A = ℕ} 0 1 = cc in omega arith
 -- there are seven replicas at most
 pub at-most-seven : (h : Shape) → InRange h → h .replicas ≤ 7
 at-most-seven h r = ⊎-elim (λ e. omega arith) (⊎-elim (λ e. omega arith) (⊎-elim (λ e. omega arith) (λ e. omega arith))) (r .replicas)
+
+-- the places up to the mark are valid
+pub valid-place : (N : ℕ) (m : List ℕ) (n : ℕ) → 1 ≤ n → n ≤ markOf N m → validPlace n (placeAt n m) ≡ true
+valid-place N m n lo hi =
+    let e : (n - 1) + 1 ≡ n = omega arith in
+    rw e at (log-valid N (n - 1) m (omega arith))
 
 module _ (h : Shape) (x : State) (H : History) (σ : protocol.State) (S : Sim h x H σ) (I : Inv σ) where
   -- a live server's session was taken

@@ -8,6 +8,7 @@
 --   Passing    a call that is not declined, and what each condition of the list says when it does not hold
 --   Counts     the counts of the two agree: decided, acknowledged
 --   Sessions   a session after an issue, and after what it acknowledges
+--   Registers  the register that an open leaves
 --   Facts      what several calls read off the tie and the invariant
 --   Played     what each call's proof is given and has to show
 --   calls/     the calls, one file each; Stop is the shortest
@@ -19,6 +20,7 @@ pub mod Frames
 pub mod Passing
 pub mod Counts
 pub mod Sessions
+pub mod Registers
 pub mod Facts
 pub mod Played
 pub mod calls

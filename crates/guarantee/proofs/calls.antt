@@ -4,3 +4,4 @@ pub mod Stop
 pub mod Reassign
 pub mod Take
 pub mod Issue
+pub mod Open

@@ -22,5 +22,7 @@ pub mod Counts
 pub mod Sessions
 pub mod Registers
 pub mod Facts
+pub mod Fresh
+pub mod Conclusions
 pub mod Played
 pub mod calls

@@ -6,6 +6,7 @@
 --   Ties       the tie, in records over the values that it ties: replicas, servers, register, sessions; Sim is all of it
 --   Frames     a call that touches one replica, one server or one session leaves only that one's tie to show
 --   Passing    a call that is not declined, and what each condition of the list says when it does not hold
+--   Counts     the counts of the two agree: decided, acknowledged
 --   Played     what each call's proof is given and has to show
 --   calls/     the calls, one file each; Stop is the shortest
 --   Blocks     media and lock tables in their slices
@@ -14,5 +15,6 @@ pub mod Ties
 pub mod Blocks
 pub mod Frames
 pub mod Passing
+pub mod Counts
 pub mod Played
 pub mod calls

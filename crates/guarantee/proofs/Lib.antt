@@ -16,5 +16,7 @@ pub mod Blocks
 pub mod Frames
 pub mod Passing
 pub mod Counts
+pub mod Media
+pub mod Messages
 pub mod Played
 pub mod calls

@@ -100,10 +100,10 @@ module _ (R : ℕ) (servers : List Server) (tables : List ℕ) (current : ℕ �
             (λ d b q. T .apart t u k j a b q))
 
   -- it becomes idle
-  pub idle-frame : ServersTie R (set servers s idleServer) tables current rows
-  idle-frame =
-      server-frame idleServer tables current rows
-      (record { size = T .tables-size; table = λ t k d. refl; take = λ t d. refl; row = λ t k d a. refl })
+  pub idle-frame : (current′ : ℕ → ℕ) (rows′ : ℕ → Row) → Elsewhere servers tables tables current current′ rows rows′ s
+      → ServersTie R (set servers s idleServer) tables current′ rows′
+  idle-frame current′ rows′ o =
+      server-frame idleServer tables current′ rows′ o
       (λ a. absurd (a refl))
       (record {
         sized = record { known = refl; dropped = refl; marks = refl };
@@ -111,6 +111,10 @@ module _ (R : ℕ) (servers : List Server) (tables : List ℕ) (current : ℕ �
         opening = λ p. let e : _≡_ {A = ℕ} 0 1 = cc in absurd (omega arith);
         serving = λ p. let e : _≡_ {A = ℕ} 0 1 = cc in absurd (omega arith);
       })
+
+  -- nothing of the others changed
+  pub elsewhere : Elsewhere servers tables tables current current rows rows s
+  elsewhere = record { size = T .tables-size; table = λ t k d. refl; take = λ t d. refl; row = λ t k d a. refl }
 
   -- it stays in its session, which no other server is in
   module _ (awake : Live (getD servers s noServer)) where

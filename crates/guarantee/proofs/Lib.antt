@@ -7,6 +7,9 @@
 --   Frames     a call that touches one replica, one server or one session leaves only that one's tie to show
 --   Passing    a call that is not declined, and what each condition of the list says when it does not hold
 --   Counts     the counts of the two agree: decided, acknowledged
+--   Sessions   a session after an issue, and after what it acknowledges
+--   Registers  the register that an open leaves
+--   Facts      what several calls read off the tie and the invariant
 --   Played     what each call's proof is given and has to show
 --   calls/     the calls, one file each; Stop is the shortest
 --   Blocks     media and lock tables in their slices
@@ -18,5 +21,8 @@ pub mod Passing
 pub mod Counts
 pub mod Media
 pub mod Messages
+pub mod Sessions
+pub mod Registers
+pub mod Facts
 pub mod Played
 pub mod calls

@@ -1,5 +1,6 @@
 -- What each call's proof is given, and what it has to show: a file of calls/ for each.
 -- Assumes nothing.
+use mathlib.Core.Path.{_≡_, refl}
 use mathlib.Core.List.{List}
 use Prim.Native.Nat.{ℕ}
 use Rattle.protocol.specs.State as protocol
@@ -7,7 +8,8 @@ use Rattle.protocol.proofs.Invariant.{Inv}
 use Rattle.cluster.specs.declared.Shape.{Shape}
 use Rattle.cluster.specs.declared.Call.{Call}
 use Rattle.cluster.specs.State.{State}
-use Rattle.cluster.specs.Step.{effect}
+use Rattle.cluster.specs.Refusals.{Input, rows, pass, firstOf}
+use Rattle.cluster.specs.Step.{effect, unless, step}
 use Rattle.guarantee.specs.History.{Element, History, told}
 use Rattle.guarantee.specs.Guarantee.{InRange, Admitted}
 use Rattle.guarantee.proofs.Ties.{Sim, Goes}
@@ -23,6 +25,7 @@ pub record Before (h : Shape) (x : State) (H : History) (σ : protocol.State) (e
   pub range : InRange h
   pub sim : Sim h x H σ
   pub inv : Inv σ
+  pub passes : firstOf (rows h x (e .input)) ≡ pass
   pub passed : Passed h x (e .input)
   pub admitted : Admitted h (record { state = x; history = H }) e
 
@@ -31,3 +34,7 @@ abbrev pub Played : Shape → State → History → protocol.State → Element �
 Played h x H σ e =
     let r = effect h x (e .input) (e .input .call) in
     Goes h σ (r .state) (told h x e r H (e .input .call))
+
+pub step-passes : (h : Shape) (x : State) (p : Input) → firstOf (rows h x p) ≡ pass → step h x p ≡ effect h x p (p .call)
+unfolding step unless
+step-passes h x p e = rw e

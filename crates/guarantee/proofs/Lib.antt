@@ -19,6 +19,8 @@ pub mod Blocks
 pub mod Frames
 pub mod Passing
 pub mod Counts
+pub mod Media
+pub mod Messages
 pub mod Sessions
 pub mod Registers
 pub mod Facts

@@ -5,11 +5,12 @@ use mathlib.Core.Bool.{Bool, true, false}
 use mathlib.Core.List.{List, [], _∷_, _++_}
 use Prim.Native.Nat.{ℕ, zero, suc, _+_, _-_, _≤_, _<_, min}
 use native.Mathlib.Omega.{arith}
-use native.Mathlib.Decide.{decLe, decLt}
+use native.Mathlib.Decide.{decLe, decLt, ℕ-discrete}
 use lib.ListN.{length}
 use Rattle.octets.specs.Octets.{writeAt}
 use Rattle.octets.proofs.Laws.{length-write}
-use Rattle.fate.specs.Fates.{Write, allOf}
+use Rattle.fate.specs.declared.Left.the-variants.{New}
+use Rattle.fate.specs.Fates.{Write, allOf, leave}
 use Rattle.storage.specs.declared.slot.Slot.{Slot}
 use Rattle.storage.specs.declared.slot.Current.{Current}
 use Rattle.storage.specs.declared.replica.Closing.{Closing}
@@ -18,11 +19,13 @@ use Rattle.storage.specs.Sizes.{slotsSize, placeSize, mediumSize, placeO
 use Rattle.storage.specs.Places.{validPlace, wiped}
 use Rattle.storage.specs.Slots.{slotBytes, currentOf, storedSlot, otherAt}
 use Rattle.storage.specs.Log.{placeAt, markOf}
-use Rattle.storage.specs.Operations.{slotWrite, placeWrite, wipes, promising, closing, prepareWrites, trimWrites}
+use Rattle.storage.specs.Operations.{slotWrite, placeWrite, wipes, promising, closing, closedMark, prepareWrites, trimWrites, noteWrites}
 use Rattle.storage.proofs.Scan.{rest, mark-le, mark-known, mark-next, mark-stop, log-valid, log-ends}
 use Rattle.storage.proofs.Blocks.{place-same, place-other}
 use Rattle.storage.proofs.LogWrites.{length-wiped, wiped-invalid}
-use Rattle.storage.proofs.Promises.{PlacesKept, floorOf, slot-write-places}
+use Rattle.storage.proofs.Promises.{PlacesKept, slot-write-places, all-first}
+use Rattle.storage.proofs.SlotReadBack.{slot-length}
+use Rattle.storage.proofs.Writing.{other-le, promised, not-promised}
 
 -- places 1 to k are valid
 abbrev pub ValidTo : ℕ → List ℕ → Type 0
@@ -118,7 +121,32 @@ trimmed-mark N t m e = truncated-mark N t m e
 
 -- ---- prepare
 
-closed-mark : (N : ℕ) (to : Closing) (m : List ℕ) → length m ≡ mediumSize N → markOf N (allOf (closing (markOf N m) to) m) ≡ floorOf to (markOf N m)
+closed-mark : (N : ℕ) (to : Closing) (m : List ℕ) → length m ≡ mediumSize N → markOf N (allOf (closing (markOf N m) to) m) ≡ closedMark to (markOf N m)
 unfolding closing allOf
 closed-mark N Unresolved m e = refl
 closed-mark N (Mark t) m e = truncated-mark N t m e
+
+-- one slot write: the medium keeps its size and its mark
+slot-written : (N : ℕ) (c : Current) (y : Slot) (m : List ℕ) → length m ≡ mediumSize N
+    → let m₁ = writeAt (otherAt c) (slotBytes y) m in (length m₁ ≡ mediumSize N) × (markOf N m₁ ≡ markOf N m)
+unfolding leave
+slot-written N c y m e = (
+  length-write (otherAt c) (slotBytes y) m (omega (arith, other-le c, slot-length y)) ∙ e,
+  mark-kept N m (writeAt (otherAt c) (slotBytes y) m) (slot-write-places c y [] m New (omega arith)),
+)
+
+pub prepared-mark : (N s : ℕ) (to : Closing) (m : List ℕ) → length m ≡ mediumSize N → markOf N (allOf (prepareWrites N s to m) m) ≡ closedMark to (markOf N m)
+unfolding prepareWrites
+prepared-mark N s to m e = go (ℕ-discrete (storedSlot m .promise) s)
+  where
+    go : Dec (storedSlot m .promise ≡ s) → markOf N (allOf (promising (currentOf m) (storedSlot m) s ++ closing (markOf N m) to) m) ≡ closedMark to (markOf N m)
+    go (yes q) = rw (not-promised (currentOf m) (storedSlot m) s q) (closed-mark N to m e)
+    go (no ne) =
+        let y : Slot = record { promise = s; low = storedSlot m .low; local = storedSlot m .local } in
+        let w = slot-written N (currentOf m) y m e in
+        rw (promised (currentOf m) (storedSlot m) s ne, all-first (slotWrite (currentOf m) y) (closing (markOf N m) to) m)
+        (rw (w .1) at (closed-mark N to (writeAt (otherAt (currentOf m)) (slotBytes y) m) (w .0)))
+
+pub noted-mark : (N low local : ℕ) (m : List ℕ) → length m ≡ mediumSize N → markOf N (allOf (noteWrites low local m) m) ≡ markOf N m
+unfolding noteWrites allOf
+noted-mark N low local m e = slot-written N (currentOf m) (record { promise = storedSlot m .promise; low = low; local = local }) m e .1

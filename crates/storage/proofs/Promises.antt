@@ -36,7 +36,7 @@ use Rattle.storage.specs.Sizes.{slotSize, slotsSize, placeSize, mediumSi
 use Rattle.storage.specs.Places.{validPlace, wiped}
 use Rattle.storage.specs.Slots.{slotBytes, validSlot, currentOf, storedSlot, otherAt, HasSlot, FittingSlot}
 use Rattle.storage.specs.Log.{placeAt, logOf, markOf, Sound}
-use Rattle.storage.specs.Operations.{slotWrite, placeWrite, wipes, promising, closing, prepareWrites, trimWrites, appendWrites, noteWrites}
+use Rattle.storage.specs.Operations.{slotWrite, placeWrite, wipes, promising, closing, closedMark, prepareWrites, trimWrites, appendWrites, noteWrites}
 use Rattle.storage.specs.Given.{Harmless}
 use Rattle.storage.proofs.SlotReadBack.{slot-length}
 use Rattle.storage.proofs.Scan.{mark-le}
@@ -80,17 +80,12 @@ abbrev pub closedBy : Closing → List (List ℕ) → List (List ℕ)
 closedBy Unresolved l = l
 closedBy (Mark t) l = take t l
 
--- the shortest that a log with mark n becomes
-abbrev pub floorOf : Closing → ℕ → ℕ
-floorOf Unresolved n = n
-floorOf (Mark t) n = min t n
-
 -- prepare, cut anywhere: nothing yet, or the promise is written and the log is a prefix that reaches the closing mark
 pub record Prepared (N s : ℕ) (to : Closing) (m m′ : List ℕ) : Type 0 where
   pub sound : Sound N m′
   pub valid : HasSlot m′
   pub stage : ((storedSlot m′ ≡ storedSlot m) × (logOf N m′ ≡ logOf N m))
-      ⊎ ((storedSlot m′ ≡ promisedSlot s (storedSlot m)) × Shortened N (floorOf to (markOf N m)) m m′)
+      ⊎ ((storedSlot m′ ≡ promisedSlot s (storedSlot m)) × Shortened N (closedMark to (markOf N m)) m m′)
 
 pub record Noted (N : ℕ) (y : Slot) (m m′ : List ℕ) : Type 0 where
   pub log : logOf N m′ ≡ logOf N m
@@ -113,7 +108,7 @@ wipes-none : (t : ℕ) → wipes t 0 ≡ []
 unfolding wipes
 wipes-none t = refl
 
-all-first : (x : Write) (xs : List Write) (m : List ℕ) → allOf (x ∷ xs) m ≡ allOf xs (writeAt (x .at) (x .bytes) m)
+pub all-first : (x : Write) (xs : List Write) (m : List ℕ) → allOf (x ∷ xs) m ≡ allOf xs (writeAt (x .at) (x .bytes) m)
 unfolding allOf
 all-first x xs m = refl
 
@@ -235,7 +230,7 @@ trims-none N t m h = ap (wipes t) (nothing-above (markOf N m) t h)
 
 module _ (N : ℕ) (f : Fate) (g m : List ℕ) (s : Sound N m) (h : Harmless N f g) where
   -- the closing mark's truncation, writes from k on
-  closes : (to : Closing) (k : ℕ) → let m′ = afterFrom k f g (closing (markOf N m) to) m in Shortened N (floorOf to (markOf N m)) m m′ × SlotsKept m m′
+  closes : (to : Closing) (k : ℕ) → let m′ = afterFrom k f g (closing (markOf N m) to) m in Shortened N (closedMark to (markOf N m)) m m′ × SlotsKept m m′
   unfolding closing afterFrom
   closes Unresolved k = (no-change N (markOf N m) m s (omega arith), record { current = refl; slot = refl })
   closes (Mark t) k = shortens N f g m s h t k
@@ -284,7 +279,7 @@ module _ (N : ℕ) (f : Fate) (g m : List ℕ) (s : Sound N m) (h : Harmless N f
       record {
         sound = a .0 .sound;
         valid = valid-by m₁ _ (a .1 .current) (o .0 .valid);
-        stage = inr (a .1 .slot ∙ o .1 lt, moved N (floorOf to (markOf N m)) m m₁ _ (r .0) (a .0));
+        stage = inr (a .1 .slot ∙ o .1 lt, moved N (closedMark to (markOf N m)) m m₁ _ (r .0) (a .0));
       }
   new-promise lt w Torn e =
       let c = currentOf m in

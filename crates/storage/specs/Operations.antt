@@ -2,7 +2,7 @@
 -- Assumes nothing.
 use mathlib.Core.List.{List, [], _∷_, _++_}
 use mathlib.Core.Bool.{cond}
-use Prim.Native.Nat.{ℕ, zero, suc, _+_, _-_, _*_}
+use Prim.Native.Nat.{ℕ, zero, suc, _+_, _-_, _*_, min}
 use lib.Dec.{eqb}
 use Rattle.octets.specs.Octets.{part, writeAt}
 use Rattle.fate.specs.Fates.{Write}
@@ -40,6 +40,11 @@ promising c x session =
 unfoldable pub closing : ℕ → Closing → List Write
 closing n Unresolved = []
 closing n (Mark t) = truncation n t
+
+-- the mark that this leaves of a log with mark n
+abbrev pub closedMark : Closing → ℕ → ℕ
+closedMark Unresolved n = n
+closedMark (Mark t) n = min t n
 
 -- prepare
 unfoldable pub prepareWrites : ℕ → ℕ → Closing → List ℕ → List Write

@@ -27,4 +27,5 @@ pub mod Facts
 pub mod Fresh
 pub mod Conclusions
 pub mod Played
+pub mod Example
 pub mod calls

@@ -2,27 +2,26 @@
 -- Assumes nothing.
 use mathlib.Core.Path.{_≡_, refl, sym, ap, _∙_}
 use mathlib.Core.Logic.{⊎-elim}
-use mathlib.Core.Bool.{Bool, true, false, not, cond, _&&_}
+use mathlib.Core.Bool.{Bool, true, false, cond}
 use mathlib.Core.List.{List, [], _∷_, _++_}
 use mathlib.Core.Option.{Option, some}
-use Prim.Native.Nat.{ℕ, zero, suc, _+_, _-_, _^_, _≤_, _<_}
+use Prim.Native.Nat.{ℕ, zero, suc, _+_, _-_, _^_, _≤_, _<_, min}
 use native.Mathlib.Omega.{arith}
 use native.Mathlib.Decide.{ℕ-discrete}
 use lib.ListN.{length, getD, take, length-append, List·getD-append}
 use lib.Seq.{take-length, getD-take, getD-at, length-take-le}
 use Rattle.fate.specs.declared.Fate.{Fate}
-use Rattle.fate.specs.declared.Fate.the-variants.{Answered}
-use Rattle.fate.specs.Fates.{allOf, after}
+use Rattle.fate.specs.Fates.{after}
 use Rattle.storage.specs.declared.slot.Slot.{Slot}
 use Rattle.storage.specs.Places.{validPlace}
 use Rattle.storage.specs.Slots.{storedSlot, HasSlot, FittingSlot}
 use Rattle.storage.specs.Log.{placeAt, placesFrom, run, logOf, markOf, Sound}
-use Rattle.storage.specs.Operations.{noteWrites}
+use Rattle.storage.specs.Operations.{trimWrites, noteWrites}
 use Rattle.storage.specs.Given.{Harmless}
-use Rattle.storage.proofs.Scan.{mark-le, log-valid}
+use Rattle.storage.proofs.Scan.{mark-le}
 use Rattle.storage.proofs.Blocks.{getD-places}
 use Rattle.storage.proofs.Truncating.{mark-is}
-use Rattle.storage.proofs.Promises.{SlotsKept, Noted, notes}
+use Rattle.storage.proofs.Promises.{SlotsKept, Trimmed, trims, Noted, notes}
 use Rattle.protocol.specs.State.{Tx}
 use Rattle.protocol.specs.Columns.{upd}
 use Rattle.protocol.proofs.Columns.{upd-at, upd-other}
@@ -51,12 +50,6 @@ log-place N m n lo hi =
     sym (run-at 1 (n - 1) (placesFrom N 1 m) (omega arith)
     ∙ getD-places N 1 (n - 1) m (omega (arith, mark-le N m))
     ∙ ap (λ (k : ℕ). placeAt k m) q)
-
--- a place up to the mark is valid
-pub place-valid : (N : ℕ) (m : List ℕ) (n : ℕ) → 1 ≤ n → n ≤ markOf N m → validPlace n (placeAt n m) ≡ true
-place-valid N m n lo hi =
-    let q : n - 1 + 1 ≡ n = omega arith in
-    rw q at (log-valid N (n - 1) m (omega arith))
 
 -- ================ a log that is a part of the old one
 
@@ -188,3 +181,21 @@ module _ (N : ℕ) (f : Fate) (g m : List ℕ) (standing : ℕ → Option Transa
       same-tie N m noted standing c T (kept .log) (kept .sound) (kept .valid)
       (⊎-elim (λ e. rw e fits) (λ e. rw e (T .fitting)) (kept .slot))
       (⊎-elim (ap (λ (y : Slot). y .promise)) (ap (λ (y : Slot). y .promise)) (kept .slot))
+
+-- ================ trim
+
+module _ (N : ℕ) (f : Fate) (g m : List ℕ) (standing : ℕ → Option Transaction) (c : Copy) (T : ReplicaTie N m standing c) (h : Harmless N f g)
+    (t : ℕ) where
+  pub trimmed : Trimmed N (min t (markOf N m)) m (after f g (trimWrites N t m) m)
+  trimmed = trims N f g m (T .sound) h t
+
+  pub trimmed-mark : markOf N (after f g (trimWrites N t m) m) ≡ trimmed .shortened .upto
+  trimmed-mark = let a = trimmed .shortened in part-mark N (a .upto) m _ (a .within) (a .log)
+
+  pub trimmed-tie : ReplicaTie N (after f g (trimWrites N t m) m) standing
+      (record { promise = c .promise; mark = trimmed .shortened .upto; place = c .place })
+  trimmed-tie =
+      let a = trimmed .shortened in
+      let k = trimmed .slots in
+      part-tie N (a .upto) m _ (a .within) (a .log) standing c T (a .sound) (λ z. T .valid (sym (k .current) ∙ z)) (rw (k .slot) (T .fitting))
+      (c .promise) (ap (λ (y : Slot). y .promise) (k .slot) ∙ T .promise)

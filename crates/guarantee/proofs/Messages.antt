@@ -18,6 +18,8 @@ use Rattle.storage.specs.Slots.{storedSlot}
 use Rattle.storage.specs.Log.{markOf}
 use Rattle.storage.specs.Given.{Harmless}
 use Rattle.protocol.specs.State as protocol
+use Rattle.protocol.specs.Columns.{upd, upd²}
+use Rattle.protocol.proofs.Columns.{upd-other, upd²-at, upd²-other}
 use Rattle.cluster.specs.declared.Shape.{Shape}
 use Rattle.cluster.specs.declared.Phase.{Phase}
 use Rattle.cluster.specs.declared.Phase.the-variants.{Idle, Opening, Open}
@@ -30,6 +32,7 @@ use Rattle.guarantee.specs.Guarantee.{InRange}
 use Rattle.guarantee.proofs.Ties.{Row, rowOf, OpeningTie, OpenTie, Sized, ServersTie, Sim}
 use Rattle.guarantee.proofs.Frames.{set-elim, stay-frame}
 use Rattle.guarantee.proofs.Passing.{neither, harmless, Within, within}
+use Rattle.guarantee.proofs.Facts.{at-most-seven}
 
 -- ================ what the list leaves
 
@@ -40,10 +43,6 @@ pub record Message (h : Shape) (x : State) (s i : ℕ) (f : Fate) (given : List 
   pub few : h .replicas ≤ 7
   pub harmless : Harmless (h .places) f given
   pub within : Within (h .replicas) (h .places) (serverAt (x .records) s)
-
-pub at-most-seven : (h : Shape) → InRange h → h .replicas ≤ 7
-at-most-seven h r =
-    ⊎-elim (λ a. omega arith) (⊎-elim (λ a. omega arith) (⊎-elim (λ a. omega arith) (λ a. omega arith))) (r .replicas)
 
 -- 2, 3, 4, 6
 pub message-of : (h : Shape) (x : State) (s i : ℕ) (f : Fate) (given : List ℕ) → InRange h → length given ≡ placeSize
@@ -276,3 +275,56 @@ module _ (h : Shape) (x : State) (H : History) (σ : protocol.State) (S : Sim h 
       go false q =
           subst⁻¹ (λ (w : Server). ServersTie (h .replicas) (set (x .records .servers) s w) (x .tables) (H .current) (rowOf σ))
           (unheard-open v i p) (with-mark true (markAt v i) refl)
+
+-- ================ an opening server that hears, or forgets
+
+-- a column that differs at session z and replica i alone
+pub record Only {A : Type 0} (old new : ℕ → ℕ → A) (z i : ℕ) : Type 0 where
+  pub sessions : (u : ℕ) → z ≢ u → new u ≡ old u
+  pub replicas : (j : ℕ) → i ≢ j → new z j ≡ old z j
+
+pub only-none : {A : Type 0} (old : ℕ → ℕ → A) (z i : ℕ) → Only old old z i
+only-none old z i = record { sessions = λ u n. refl; replicas = λ j n. refl }
+
+pub only-set : {A : Type 0} (old : ℕ → ℕ → A) (z i : ℕ) (a : A) → Only old (upd² old z i a) z i
+only-set old z i a =
+    record {
+      sessions = λ u n. upd-other old z (upd (old z) i a) u n;
+      replicas = λ j n. upd²-other old z i a z j (λ q. n (q .1));
+    }
+
+pub only-then : {A : Type 0} (old mid new : ℕ → ℕ → A) (z i : ℕ) → Only old mid z i → Only mid new z i → Only old new z i
+only-then old mid new z i a b =
+    record { sessions = λ u n. b .sessions u n ∙ a .sessions u n; replicas = λ j n. b .replicas j n ∙ a .replicas j n }
+
+module _ (h : Shape) (x : State) (H : History) (σ : protocol.State) (S : Sim h x H σ) (s i : ℕ) (f : Fate) (given : List ℕ)
+    (M : Message h x s i f given) (p : serverAt (x .records) s .phase ≡ Opening) where
+  abbrev v′ : Server
+  v′ = serverAt (x .records) s
+
+  abbrev z : ℕ
+  z = v′ .session
+
+  pub opening-told : (k : Bool) (mark : ℕ) (known : ℕ → ℕ → Bool) (recorded : ℕ → ℕ → ℕ) → Only (σ .known) known z i → Only (σ .recorded) recorded z i
+      → known z i ≡ k → (k ≡ true → mark ≡ recorded z i)
+      → ServersTie (h .replicas) (set (x .records .servers) s (withReplica v′ i k false mark)) (x .tables) (H .current)
+      (λ u. row-heard (rowOf σ u) (known u) (recorded u))
+  opening-told k mark known recorded a b here heard =
+      opening-frame (h .replicas) (x .records .servers) (x .tables) (H .current) (rowOf σ) (S .servers) s (M .server)
+      (withReplica v′ i k false mark) (λ u. row-heard (rowOf σ u) (known u) (recorded u))
+      (λ u n. rw (a .sessions u n, b .sessions u n)) refl
+      (sized-after (h .replicas) v′ i (M .few) (M .replica) (S .servers .each s (M .server) .sized) k false mark) p p
+      (opening-after (h .replicas) v′ i (M .few) (M .replica) (S .servers .each s (M .server) .sized) k mark
+      (rowOf σ z) (S .servers .each s (M .server) .opening p) (known z) (recorded z) here heard (a .replicas) (b .replicas))
+
+  -- it forgets the replica, whatever was recorded of it
+  pub opening-forgets : (known : ℕ → ℕ → Bool) (recorded : ℕ → ℕ → ℕ) → Only (σ .known) known z i → Only (σ .recorded) recorded z i
+      → ServersTie (h .replicas) (set (x .records .servers) s (unheard v′ i)) (x .tables) (H .current)
+      (λ u. row-heard (rowOf σ u) (upd² known z i false u) (recorded u))
+  opening-forgets known recorded a b =
+      subst⁻¹
+      (λ (w : Server).
+      ServersTie (h .replicas) (set (x .records .servers) s w) (x .tables) (H .current) (λ u. row-heard (rowOf σ u) (upd² known z i false u) (recorded u)))
+      (unheard-opening v′ i p)
+      (opening-told false 0 (upd² known z i false) recorded (only-then (σ .known) known (upd² known z i false) z i a (only-set known z i false)) b
+      (upd²-at known z i false z i refl refl) (λ e. absurd (true≢false (sym e))))

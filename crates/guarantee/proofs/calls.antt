@@ -7,3 +7,4 @@ pub mod Reassign
 pub mod Take
 pub mod Issue
 pub mod Open
+pub mod Trim

@@ -1,32 +1,39 @@
 -- A medium's tie after each storage operation: a log that became shorter or stayed, and one that got a record.
 -- Assumes nothing.
 use mathlib.Core.Path.{_≡_, refl, sym, ap, _∙_}
-use mathlib.Core.Logic.{⊎-elim}
+use mathlib.Core.Logic.{_⊎_, inl, inr, ⊎-elim}
 use mathlib.Core.Bool.{Bool, true, false, cond}
 use mathlib.Core.List.{List, [], _∷_, _++_}
 use mathlib.Core.Option.{Option, some}
 use Prim.Native.Nat.{ℕ, zero, suc, _+_, _-_, _^_, _≤_, _<_, min}
 use native.Mathlib.Omega.{arith}
-use native.Mathlib.Decide.{ℕ-discrete}
+use native.Mathlib.Decide.{ℕ-discrete, decLe}
 use lib.ListN.{length, getD, take, length-append, List·getD-append}
-use lib.Seq.{take-length, getD-take, getD-at, length-take-le}
+use lib.Seq.{take-length, take-all, getD-take, getD-at, length-take-le}
 use Rattle.fate.specs.declared.Fate.{Fate}
-use Rattle.fate.specs.Fates.{after}
+use Rattle.fate.specs.declared.Fate.the-variants.{Answered}
+use Rattle.fate.specs.Fates.{Write, allOf, after}
 use Rattle.storage.specs.declared.slot.Slot.{Slot}
+use Rattle.storage.specs.declared.replica.Closing.{Closing}
+use Rattle.storage.specs.declared.replica.Closing.the-variants.{Unresolved, Mark}
 use Rattle.storage.specs.Places.{validPlace}
 use Rattle.storage.specs.Slots.{storedSlot, HasSlot, FittingSlot}
 use Rattle.storage.specs.Log.{placeAt, placesFrom, run, logOf, markOf, Sound}
-use Rattle.storage.specs.Operations.{trimWrites, noteWrites}
+use Rattle.storage.specs.Operations.{closedMark, prepareWrites, trimWrites, noteWrites}
 use Rattle.storage.specs.Given.{Harmless}
 use Rattle.storage.proofs.Scan.{mark-le}
 use Rattle.storage.proofs.Blocks.{getD-places}
 use Rattle.storage.proofs.Truncating.{mark-is}
-use Rattle.storage.proofs.Promises.{SlotsKept, Trimmed, trims, Noted, notes}
+use Rattle.storage.proofs.Promises.{SlotsKept, Trimmed, trims, promisedSlot, closedBy, Prepared, prepares, Closed, prepares-all, Noted, notes}
 use Rattle.protocol.specs.State.{Tx}
 use Rattle.protocol.specs.Columns.{upd}
 use Rattle.protocol.proofs.Columns.{upd-at, upd-other}
 use Rattle.guarantee.specs.History.{Transaction}
 use Rattle.guarantee.proofs.Ties.{Copy, transactionOf, ReplicaTie}
+
+after-answered : (g : List ℕ) (ws : List Write) (m : List ℕ) → after Answered g ws m ≡ allOf ws m
+unfolding after
+after-answered g ws m = refl
 
 -- ================ the places of a log
 
@@ -189,9 +196,6 @@ module _ (N : ℕ) (f : Fate) (g m : List ℕ) (standing : ℕ → Option Transa
   pub trimmed : Trimmed N (min t (markOf N m)) m (after f g (trimWrites N t m) m)
   trimmed = trims N f g m (T .sound) h t
 
-  pub trimmed-mark : markOf N (after f g (trimWrites N t m) m) ≡ trimmed .shortened .upto
-  trimmed-mark = let a = trimmed .shortened in part-mark N (a .upto) m _ (a .within) (a .log)
-
   pub trimmed-tie : ReplicaTie N (after f g (trimWrites N t m) m) standing
       (record { promise = c .promise; mark = trimmed .shortened .upto; place = c .place })
   trimmed-tie =
@@ -199,3 +203,65 @@ module _ (N : ℕ) (f : Fate) (g m : List ℕ) (standing : ℕ → Option Transa
       let k = trimmed .slots in
       part-tie N (a .upto) m _ (a .within) (a .log) standing c T (a .sound) (λ z. T .valid (sym (k .current) ∙ z)) (rw (k .slot) (T .fitting))
       (c .promise) (ap (λ (y : Slot). y .promise) (k .slot) ∙ T .promise)
+
+-- ================ prepare
+
+-- what a complete truncation leaves is the log up to the closing mark
+closed-part : (N : ℕ) (m : List ℕ) (to : Closing) → closedBy to (logOf N m) ≡ take (closedMark to (markOf N m)) (logOf N m)
+closed-part N m Unresolved = sym (ap (λ (n : ℕ). take n (logOf N m)) (mark-is N m) ∙ take-length (logOf N m))
+closed-part N m (Mark t) = go (decLe t (markOf N m))
+  where
+    go : Dec (t ≤ markOf N m) → take t (logOf N m) ≡ take (min t (markOf N m)) (logOf N m)
+    go (yes l) = let e : t ≡ min t (markOf N m) = omega arith in ap (λ (n : ℕ). take n (logOf N m)) e
+    go (no l) =
+        let e : min t (markOf N m) ≡ markOf N m = omega arith in
+        take-all t (logOf N m) (omega (arith, mark-is N m))
+        ∙ sym (ap (λ (n : ℕ). take n (logOf N m)) (e ∙ mark-is N m) ∙ take-length (logOf N m))
+
+pub closed-le : (to : Closing) (n : ℕ) → closedMark to n ≤ n
+closed-le Unresolved n = omega arith
+closed-le (Mark t) n = omega arith
+
+module _ (N : ℕ) (f : Fate) (g m : List ℕ) (standing : ℕ → Option Transaction) (c : Copy) (T : ReplicaTie N m standing c) (h : Harmless N f g)
+    (p : ℕ) (to : Closing) (le : storedSlot m .promise ≤ p) (w : p < 2 ^ 64) where
+  abbrev prepared : List ℕ
+  prepared = after f g (prepareWrites N p to m) m
+
+  done : Prepared N p to m prepared
+  done = prepares N f g m (T .sound) h p to (T .valid) (T .fitting) le w
+
+  new-slot : storedSlot prepared ≡ promisedSlot p (storedSlot m) → FittingSlot (storedSlot prepared)
+  new-slot e = rw e (record { promise = w; low = T .fitting .low; local = T .fitting .local })
+
+  -- the promise was written, and the log wiped down to k
+  pub record Wiped : Type 0 where
+    pub upto : ℕ
+    pub reaches : closedMark to (c .mark) ≤ upto
+    pub down : upto ≤ c .mark
+    pub tie : ReplicaTie N (after f g (prepareWrites N p to m) m) standing (record { promise = p; mark = upto; place = c .place })
+
+  -- nothing was written yet, or the promise was
+  pub prepared-tie : ReplicaTie N (after f g (prepareWrites N p to m) m) standing c ⊎ Wiped
+  prepared-tie =
+      ⊎-elim
+      (λ e. inl (same-tie N m prepared standing c T (e .1) (done .sound) (done .valid) (rw (e .0) (T .fitting)) (ap (λ (y : Slot). y .promise) (e .0))))
+      (λ e.
+      inr (record {
+        upto = e .1 .upto;
+        reaches = rw (T .mark) at (e .1 .reaches);
+        down = omega (arith, e .1 .within, T .mark);
+        tie =
+            part-tie N (e .1 .upto) m prepared (e .1 .within) (e .1 .log) standing c T (done .sound) (done .valid) (new-slot (e .0)) p
+            (ap (λ (y : Slot). y .promise) (e .0));
+      }))
+      (done .stage)
+
+  -- the whole of it
+  pub answered-tie : f ≡ Answered
+      → ReplicaTie N (after f g (prepareWrites N p to m) m) standing (record { promise = p; mark = closedMark to (c .mark); place = c .place })
+  answered-tie a =
+      let all : after f g (prepareWrites N p to m) m ≡ allOf (prepareWrites N p to m) m = rw a (after-answered g (prepareWrites N p to m) m) in
+      let z : Closed N p to m prepared = rw all (prepares-all N p to m (T .sound) (T .valid) (T .fitting) le w) in
+      let e : logOf N prepared ≡ take (closedMark to (c .mark)) (logOf N m) = rw (← (T .mark)) (z .log ∙ closed-part N m to) in
+      part-tie N (closedMark to (c .mark)) m prepared (omega (arith, closed-le to (c .mark), T .mark)) e standing c T (done .sound) (done .valid)
+      (new-slot (z .slot)) p (ap (λ (y : Slot). y .promise) (z .slot))

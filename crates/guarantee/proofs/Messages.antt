@@ -76,6 +76,11 @@ pub accepts : (answer a b c : Bool) → (answer && a) ≡ false → (answer && b
 accepts true a b c p q r e = rw (p, q, r)
 accepts false a b c p q r e = absurd (true≢false (sym e))
 
+-- prepare's, 18 and 19
+pub accepts-prepare : (answer a b : Bool) → (answer && a) ≡ false → (answer && b) ≡ false → answer ≡ true → (a || b) ≡ false
+accepts-prepare true a b p q e = rw (p, q)
+accepts-prepare false a b p q e = absurd (true≢false (sym e))
+
 pub is-answered : (f : Fate) → answered f ≡ true → f ≡ Answered
 is-answered Answered e = refl
 is-answered Lost e = absurd (true≢false (sym e))

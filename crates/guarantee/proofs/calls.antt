@@ -8,3 +8,4 @@ pub mod Take
 pub mod Issue
 pub mod Open
 pub mod Trim
+pub mod Prepare

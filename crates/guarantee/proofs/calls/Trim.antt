@@ -28,7 +28,7 @@ use Rattle.guarantee.proofs.Ties.{Sim, Goes, ReplicaTie, OpeningTie, co
 use Rattle.guarantee.proofs.Frames.{replica-frame}
 use Rattle.guarantee.proofs.Passing.{is-opening}
 use Rattle.guarantee.proofs.Counts.{decided-tie}
-use Rattle.guarantee.proofs.Media.{trimmed, trimmed-mark, trimmed-tie}
+use Rattle.guarantee.proofs.Media.{trimmed, trimmed-tie}
 use Rattle.guarantee.proofs.Messages.{Message, message-of, agrees, accepts, only-none, only-set, opening-told, opening-forgets}
 use Rattle.guarantee.proofs.Played.{with-call, Before, Played}
 

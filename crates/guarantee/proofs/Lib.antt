@@ -21,6 +21,7 @@ pub mod Passing
 pub mod Counts
 pub mod Media
 pub mod Messages
+pub mod Appending
 pub mod Sessions
 pub mod Registers
 pub mod Facts

@@ -10,21 +10,25 @@ use native.Mathlib.Omega.{arith}
 use native.Mathlib.Decide.{ℕ-discrete, decLe}
 use lib.ListN.{length, getD, take, length-append, List·getD-append}
 use lib.Seq.{take-length, take-all, getD-take, getD-at, length-take-le}
+use Rattle.fate.specs.declared.Left.{Left}
+use Rattle.fate.specs.declared.Left.the-variants.{Old, New, Torn}
 use Rattle.fate.specs.declared.Fate.{Fate}
 use Rattle.fate.specs.declared.Fate.the-variants.{Answered}
 use Rattle.fate.specs.Fates.{Write, allOf, after}
+use Rattle.fate.specs.Numbered.{effectOf}
 use Rattle.storage.specs.declared.slot.Slot.{Slot}
 use Rattle.storage.specs.declared.replica.Closing.{Closing}
 use Rattle.storage.specs.declared.replica.Closing.the-variants.{Unresolved, Mark}
 use Rattle.storage.specs.Places.{validPlace}
 use Rattle.storage.specs.Slots.{storedSlot, HasSlot, FittingSlot}
 use Rattle.storage.specs.Log.{placeAt, placesFrom, run, logOf, markOf, Sound}
-use Rattle.storage.specs.Operations.{closedMark, prepareWrites, trimWrites, noteWrites}
+use Rattle.storage.specs.Operations.{closedMark, prepareWrites, trimWrites, appendWrites, noteWrites}
 use Rattle.storage.specs.Given.{Harmless}
+use Rattle.storage.proofs.PlaceCases.{valid-tests}
 use Rattle.storage.proofs.Scan.{mark-le}
 use Rattle.storage.proofs.Blocks.{getD-places}
 use Rattle.storage.proofs.Truncating.{mark-is}
-use Rattle.storage.proofs.Promises.{SlotsKept, Trimmed, trims, promisedSlot, closedBy, Prepared, prepares, Closed, prepares-all, Noted, notes}
+use Rattle.storage.proofs.Promises.{SlotsKept, Appended, appends, Trimmed, trims, promisedSlot, closedBy, Prepared, prepares, Closed, prepares-all, Noted, notes}
 use Rattle.protocol.specs.State.{Tx}
 use Rattle.protocol.specs.Columns.{upd}
 use Rattle.protocol.proofs.Columns.{upd-at, upd-other}
@@ -265,3 +269,44 @@ module _ (N : ℕ) (f : Fate) (g m : List ℕ) (standing : ℕ → Option Transa
       let e : logOf N prepared ≡ take (closedMark to (c .mark)) (logOf N m) = rw (← (T .mark)) (z .log ∙ closed-part N m to) in
       part-tie N (closedMark to (c .mark)) m prepared (omega (arith, closed-le to (c .mark), T .mark)) e standing c T (done .sound) (done .valid)
       (new-slot (z .slot)) p (ap (λ (y : Slot). y .promise) (z .slot))
+
+-- ================ append
+
+effect-answered : (f : Fate) → f ≡ Answered → effectOf f 1 ≡ New
+unfolding effectOf
+effect-answered f e = rw e
+
+-- the log got the record
+pub record Grown (N : ℕ) (bs m m′ : List ℕ) : Type 0 where
+  pub log : logOf N m′ ≡ logOf N m ++ (bs ∷ [])
+  pub sound : Sound N m′
+  pub slots : SlotsKept m m′
+
+module _ (N : ℕ) (f : Fate) (g m : List ℕ) (standing : ℕ → Option Transaction) (c : Copy) (T : ReplicaTie N m standing c) (h : Harmless N f g)
+    (bs : List ℕ) (n : ℕ) (e : markOf N m ≡ n) (room : n < N) (v : validPlace (suc n) bs ≡ true) where
+  abbrev appended : List ℕ
+  appended = after f g (appendWrites n bs) m
+
+  written : Appended N f bs m appended
+  written =
+      let q : suc n ≡ markOf N m + 1 = omega arith in
+      let w : validPlace (markOf N m + 1) bs ≡ true = rw q at v in
+      rw (← e) (appends N f g m (T .sound) h bs (omega arith) (valid-tests (suc n) bs v .size) w)
+
+  -- it has the record, or it stayed, and then there was no answer
+  pub appended-cases : ((f ≡ Answered → ⊥) × ReplicaTie N (after f g (appendWrites n bs) m) standing c)
+      ⊎ Grown N bs m (after f g (appendWrites n bs) m)
+  appended-cases = go (effectOf f 1) refl
+    where
+      stayed : (x : Left) → effectOf f 1 ≡ x → (x ≡ New → ⊥) → logOf N appended ≡ logOf N m
+          → (f ≡ Answered → ⊥) × ReplicaTie N appended standing c
+      stayed x q d l = (
+        λ a. d (sym q ∙ effect-answered f a),
+        same-tie N m appended standing c T l (written .sound) (λ z. T .valid (sym (written .slots .current) ∙ z)) (rw (written .slots .slot) (T .fitting))
+            (ap (λ (y : Slot). y .promise) (written .slots .slot)),
+      )
+
+      go : (x : Left) → effectOf f 1 ≡ x → ((f ≡ Answered → ⊥) × ReplicaTie N appended standing c) ⊎ Grown N bs m appended
+      go New q = inr (record { log = rw q at (written .log); sound = written .sound; slots = written .slots })
+      go Old q = inl (stayed Old q (λ d. let e : _≡_ {A = ℕ} 0 1 = cc in omega arith) (rw q at (written .log)))
+      go Torn q = inl (stayed Torn q (λ d. let e : _≡_ {A = ℕ} 0 1 = cc in omega arith) (rw q at (written .log)))

@@ -199,6 +199,9 @@ module _ (R : ℕ) (v : Server) (i : ℕ) (few : R ≤ 7) (l : i < R) (z : Sized
         }
 
 -- the acknowledged mark is not tied
+pub sized-acknowledged : (R : ℕ) (v : Server) → Sized v → Sized (acknowledge R v)
+sized-acknowledged R v z = record { known = z .known; dropped = z .dropped; marks = z .marks }
+
 pub open-acknowledged : (R : ℕ) (v : Server) (table : List ℕ) (ρ : Row) → OpenTie R v table ρ → OpenTie R (acknowledge R v) table ρ
 open-acknowledged R v table ρ T =
     record {

@@ -9,3 +9,4 @@ pub mod Issue
 pub mod Open
 pub mod Trim
 pub mod Prepare
+pub mod Send

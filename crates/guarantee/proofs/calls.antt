@@ -10,3 +10,4 @@ pub mod Open
 pub mod Trim
 pub mod Prepare
 pub mod Send
+pub mod Copy

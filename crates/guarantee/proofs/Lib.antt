@@ -25,5 +25,7 @@ pub mod Appending
 pub mod Sessions
 pub mod Registers
 pub mod Facts
+pub mod Fresh
+pub mod Conclusions
 pub mod Played
 pub mod calls

@@ -7,7 +7,7 @@ use mathlib.Core.List.{List, [], _∷_}
 use mathlib.Core.Option.{Option, some}
 use Prim.Native.Nat.{ℕ, suc, _≤_, _<_}
 use native.Mathlib.Omega.{arith}
-use lib.ListN.{length, getD, set}
+use lib.ListN.{length}
 use Rattle.quorum.specs.Vote.{majorityMark}
 use Rattle.fate.specs.declared.Fate.{Fate}
 use Rattle.fate.specs.declared.Fate.the-variants.{Answered}
@@ -19,7 +19,7 @@ use Rattle.protocol.specs.State as protocol
 use Rattle.protocol.specs.State.{Tx}
 use Rattle.protocol.specs.Columns.{upd, upd², append-mark, append-place}
 use Rattle.protocol.specs.With.{with-replicas, with-servers}
-use Rattle.protocol.specs.Events.{after-append, after-hear, after-acknowledge, Can-append, Can-hear, Can-acknowledge, Step, Steps, _▸_}
+use Rattle.protocol.specs.Events.{after-append, after-acknowledge, Can-append, Can-acknowledge, Step, Steps, _▸_}
 use Rattle.protocol.proofs.Columns.{upd-same, upd-other, upd²-at}
 use Rattle.protocol.proofs.Invariant.{Inv}
 use Rattle.protocol.proofs.Keeps.{steps-inv}
@@ -32,14 +32,14 @@ use Rattle.cluster.specs.Replies.{ok, silent}
 use Rattle.cluster.specs.Refusals.{answered, isOpen, refusesAt}
 use Rattle.cluster.specs.Effects.{withReplica, heard, unheard, acknowledge, mediumAfter, afterMessage, replyTo, with, appendEffect}
 use Rattle.guarantee.specs.History.{Transaction, History, valueOr, validAt, put, acknowledging}
-use Rattle.guarantee.proofs.Ties.{Copy, copyOf, rowOf, storyOf, transactionOf, ReplicaTie, ReplicasTie, OpenTie, ServersTie, SessionTie, SessionsTie, Sim, Goes}
+use Rattle.guarantee.proofs.Ties.{copyOf, rowOf, storyOf, transactionOf, ReplicaTie, OpenTie, SessionsTie, Sim, Goes}
 use Rattle.guarantee.proofs.Blocks.{block-same}
 use Rattle.guarantee.proofs.Frames.{replica-frame, session-frame}
 use Rattle.guarantee.proofs.Counts.{acknowledge-tie}
 use Rattle.guarantee.proofs.Sessions.{told-acknowledged}
 use Rattle.guarantee.proofs.Facts.{open-lives, valid-place}
 use Rattle.guarantee.proofs.Media.{Grown, appended-cases, more-mark, more-tie, other-standing}
-use Rattle.guarantee.proofs.Messages.{Message, Agrees, agrees, is-answered, active-member, unheard-open, sized-after, members-after, marks-after, open-after, sized-acknowledged, open-acknowledged, open-frame, Only, only-none, only-set}
+use Rattle.guarantee.proofs.Messages.{Message, agrees, is-answered, active-member, unheard-open, sized-after, members-after, marks-after, open-after, sized-acknowledged, open-acknowledged, open-frame, Only, only-none, only-set}
 
 -- ================ whose records stand there
 

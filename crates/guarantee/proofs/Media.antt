@@ -65,10 +65,10 @@ log-place N m n lo hi =
 -- ================ a log that is a part of the old one
 
 module _ (N k : ℕ) (m m′ : List ℕ) (h : k ≤ markOf N m) (e : logOf N m′ ≡ take k (logOf N m)) where
-  pub part-mark : markOf N m′ ≡ k
+  part-mark : markOf N m′ ≡ k
   part-mark = mark-is N m′ ∙ ap length e ∙ length-take-le k (logOf N m) (omega (arith, mark-is N m))
 
-  pub part-place : (n : ℕ) → 1 ≤ n → n ≤ k → placeAt n m′ ≡ placeAt n m
+  part-place : (n : ℕ) → 1 ≤ n → n ≤ k → placeAt n m′ ≡ placeAt n m
   part-place n lo hi =
       log-place N m′ n lo (omega (arith, part-mark))
       ∙ ap (λ (l : List (List ℕ)). getD l (n - 1) []) e

@@ -1,7 +1,7 @@
 -- A message of a server to a replica: what the list leaves of it when it is not declined, and the server's record after it.
 -- Assumes nothing.
 use mathlib.Core.Path.{_≡_, refl, sym, ap, _∙_, subst⁻¹}
-use mathlib.Core.Logic.{_≢_, inl, inr, ⊎-elim, _⊎_}
+use mathlib.Core.Logic.{_≢_}
 use mathlib.Core.Bool.{Bool, true, false, not, cond, _&&_, _||_, true≢false}
 use mathlib.Core.List.{List}
 use Prim.Native.Nat.{ℕ, _≤_, _<_}
@@ -16,21 +16,24 @@ use Rattle.fate.specs.declared.Fate.the-variants.{Answered, Lost, AnswerLost, C
 use Rattle.storage.specs.Sizes.{placeSize}
 use Rattle.storage.specs.Slots.{storedSlot}
 use Rattle.storage.specs.Log.{markOf}
+use Rattle.storage.specs.Operations.{mediumAt}
 use Rattle.storage.specs.Given.{Harmless}
 use Rattle.protocol.specs.State as protocol
 use Rattle.protocol.specs.Columns.{upd, upd²}
+use Rattle.protocol.specs.Events.{after-forget}
 use Rattle.protocol.proofs.Columns.{upd-other, upd²-at, upd²-other}
+use Rattle.protocol.proofs.Traces.{forgotten}
 use Rattle.cluster.specs.declared.Shape.{Shape}
 use Rattle.cluster.specs.declared.Phase.{Phase}
 use Rattle.cluster.specs.declared.Phase.the-variants.{Idle, Opening, Open}
 use Rattle.cluster.specs.declared.Server.{Server}
 use Rattle.cluster.specs.State.{State, noServer, serverAt, markAt, memberAt, activeAt, tableAt}
-use Rattle.cluster.specs.Refusals.{markAbove, isOpen, unfit, noSlot, promiseDiffers, markDiffers, refuses, answered}
-use Rattle.cluster.specs.Effects.{withReplica, heard, unheard, acknowledge, afterMessage}
+use Rattle.cluster.specs.Refusals.{markAbove, isOpen, unfit, noSlot, promiseAbove, promiseDiffers, markDiffers, refusesPrepare, refuses, refusesAt, answered}
+use Rattle.cluster.specs.Effects.{withReplica, heard, unheard, acknowledge, afterMessage, with}
 use Rattle.guarantee.specs.History.{History}
 use Rattle.guarantee.specs.Guarantee.{InRange}
-use Rattle.guarantee.proofs.Ties.{Row, rowOf, OpeningTie, OpenTie, Sized, ServersTie, Sim}
-use Rattle.guarantee.proofs.Frames.{set-elim, stay-frame}
+use Rattle.guarantee.proofs.Ties.{Row, copyOf, rowOf, ReplicaTie, OpeningTie, OpenTie, Sized, ServersTie, Sim, Goes}
+use Rattle.guarantee.proofs.Frames.{replica-frame, stay-frame}
 use Rattle.guarantee.proofs.Passing.{neither, harmless, Within, within}
 use Rattle.guarantee.proofs.Facts.{at-most-seven}
 
@@ -72,14 +75,23 @@ agrees N v i m e =
     }
 
 -- 18 to 20, which are seen if the message is answered: a replica that answers does not decline
-pub accepts : (answer a b c : Bool) → (answer && a) ≡ false → (answer && b) ≡ false → (answer && c) ≡ false → answer ≡ true → (a || b || c) ≡ false
-accepts true a b c p q r e = rw (p, q, r)
-accepts false a b c p q r e = absurd (true≢false (sym e))
+neither-seen : (answer a b : Bool) → (answer && a) ≡ false → (answer && b) ≡ false → answer ≡ true → (a || b) ≡ false
+neither-seen true a b p q e = rw (p, q)
+neither-seen false a b p q e = absurd (true≢false (sym e))
 
 -- prepare's, 18 and 19
-pub accepts-prepare : (answer a b : Bool) → (answer && a) ≡ false → (answer && b) ≡ false → answer ≡ true → (a || b) ≡ false
-accepts-prepare true a b p q e = rw (p, q)
-accepts-prepare false a b p q e = absurd (true≢false (sym e))
+pub accepts-prepare : (session : ℕ) (m : List ℕ) (f : Fate) → (answered f && noSlot m) ≡ false → (answered f && promiseAbove session m) ≡ false
+    → answered f ≡ true → refusesPrepare session m ≡ false
+accepts-prepare session m f = neither-seen (answered f) (noSlot m) (promiseAbove session m)
+
+pub accepts : (N : ℕ) (v : Server) (media : List ℕ) (i : ℕ) (f : Fate) → let m = mediumAt N i media in
+    (answered f && noSlot m) ≡ false → (answered f && promiseDiffers (v .session) m) ≡ false → (answered f && markDiffers N (markAt v i) m) ≡ false
+    → answered f ≡ true → refusesAt N v media i ≡ false
+accepts N v media i f p q r e =
+    let m = mediumAt N i media in
+    let a = neither-seen (answered f) (noSlot m) (promiseDiffers (v .session) m) p q e in
+    let b : markDiffers N (markAt v i) m ≡ false = rw e at r in
+    rw (a, b)
 
 pub is-answered : (f : Fate) → answered f ≡ true → f ≡ Answered
 is-answered Answered e = refl
@@ -336,3 +348,20 @@ module _ (h : Shape) (x : State) (H : History) (σ : protocol.State) (S : Sim h 
       (unheard-opening v′ i p)
       (opening-told false 0 (upd² known z i false) recorded (only-then (σ .known) known (upd² known z i false) z i a (only-set known z i false)) b
       (upd²-at known z i false z i refl refl) (λ e. absurd (true≢false (sym e))))
+
+  -- nothing was written, and there is no answer
+  pub opening-silent : (m : List ℕ) → ReplicaTie (h .places) m (H .standing i) (copyOf σ i) → Goes h σ (with (h .places) x s i m (unheard v′ i)) H
+  opening-silent m t = (
+    after-forget σ z i,
+    forgotten σ z i,
+    record {
+      R = S .R;
+      Q = S .Q;
+      register = S .register;
+      replicas =
+          replica-frame (h .replicas) (h .places) (x .media) (H .standing) (copyOf σ) (S .replicas) i (M .replica) m
+          (H .standing) (copyOf σ) (λ j n. refl) (λ j n. refl) t;
+      servers = opening-forgets (σ .known) (σ .recorded) (only-none (σ .known) z i) (only-none (σ .recorded) z i);
+      sessions = S .sessions;
+    },
+  )

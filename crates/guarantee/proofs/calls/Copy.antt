@@ -20,7 +20,7 @@ use Rattle.protocol.specs.State as protocol
 use Rattle.protocol.specs.State.{Tx}
 use Rattle.protocol.specs.Columns.{upd, upd², append-mark, append-place}
 use Rattle.protocol.specs.With.{with-replicas, with-servers}
-use Rattle.protocol.specs.Events.{after-copy, after-forget, Can-copy, Steps}
+use Rattle.protocol.specs.Events.{after-copy, Can-copy, Steps}
 use Rattle.protocol.proofs.Columns.{upd-same, upd-other, upd²-at}
 use Rattle.protocol.proofs.Facts.{unopened}
 use Rattle.protocol.proofs.Traces.{forgotten, copy-answered, copy-silent, copy-is-send}
@@ -31,7 +31,7 @@ use Rattle.cluster.specs.declared.Server.{Server}
 use Rattle.cluster.specs.declared.Call.the-variants as call
 use Rattle.cluster.specs.State.{State, serverAt, markAt, activeAt, tableAt}
 use Rattle.cluster.specs.Replies.{ok}
-use Rattle.cluster.specs.Refusals.{answered, isOpen, noSlot, promiseDiffers, markDiffers, refusesAt}
+use Rattle.cluster.specs.Refusals.{answered, isOpen, refusesAt}
 use Rattle.cluster.specs.Effects.{heard, unheard, acknowledge, mediumAfter, afterMessage, replyTo, with, appendEffect}
 use Rattle.guarantee.specs.History.{Session, History, valueOr, put, acknowledging, told}
 use Rattle.guarantee.proofs.Ties.{Sim, Goes, ReplicaTie, OpeningTie, OpenTie, ServersTie, SessionsTie, copyOf, rowOf, storyOf}
@@ -40,7 +40,7 @@ use Rattle.guarantee.proofs.Passing.{neither, not-idle}
 use Rattle.guarantee.proofs.Facts.{opening-lives, valid-place}
 use Rattle.guarantee.proofs.Media.{Grown, appended-cases}
 use Rattle.guarantee.proofs.Messages.{Message, message-of, agrees, accepts, is-answered, active-member, only-none, only-set, opening-told, opening-forgets}
-use Rattle.guarantee.proofs.Appending.{standing-after, put-kept, put-grown, Appendable, open-append}
+use Rattle.guarantee.proofs.Appending.{standing-after, put-kept, put-grown, open-append}
 use Rattle.guarantee.proofs.Played.{with-call, Before, Played}
 
 -- a session that is not opened acknowledges nothing
@@ -116,7 +116,7 @@ module _ (h : Shape) (x : State) (H : History) (σ : protocol.State) (content lo
 
   accepted : answered f ≡ true → refusesAt (h .places) v (x .media) b ≡ false
   accepted =
-      accepts (answered f) (noSlot m) (promiseDiffers z m) (markDiffers (h .places) (markAt v b) m) (B .passed .slot) (B .passed .promise)
+      accepts (h .places) v (x .media) b f (B .passed .slot) (B .passed .promise)
       (B .passed .mark)
 
   -- a replica that does not decline

@@ -1,8 +1,8 @@
 -- prepare: nothing is written yet, or the promise and then a part of the log is left, as far as the wiping came; a silent replica is forgotten.
 -- Assumes nothing.
-use mathlib.Core.Path.{_≡_, refl, sym, ap, _∙_}
-use mathlib.Core.Logic.{_≢_, ⊎-elim}
-use mathlib.Core.Bool.{Bool, true, false, cond, _||_, true≢false}
+use mathlib.Core.Path.{_≡_, refl, sym, _∙_}
+use mathlib.Core.Logic.{⊎-elim}
+use mathlib.Core.Bool.{Bool, true, false, cond, true≢false}
 use mathlib.Core.List.{List}
 use Prim.Native.Nat.{ℕ, _^_, _≤_, _<_}
 use native.Mathlib.Omega.{arith}
@@ -12,12 +12,12 @@ use Rattle.storage.specs.declared.replica.Closing.{Closing}
 use Rattle.storage.specs.declared.replica.Closing.the-variants.{Unresolved, Mark}
 use Rattle.storage.specs.Slots.{storedSlot}
 use Rattle.storage.specs.Log.{markOf}
-use Rattle.storage.specs.Operations.{closedMark, mediumAt, prepareWrites}
+use Rattle.storage.specs.Operations.{closedMark, mediumAt, withMedium, prepareWrites}
 use Rattle.protocol.specs.State as protocol
 use Rattle.protocol.specs.Columns.{upd, upd²}
-use Rattle.protocol.specs.Events.{after-forget, after-learn}
+use Rattle.protocol.specs.Events.{after-learn}
 use Rattle.protocol.proofs.Columns.{upd-same, upd-other, upd²-at}
-use Rattle.protocol.proofs.Traces.{forgotten, prepared, prepare-silent, prepare-answered}
+use Rattle.protocol.proofs.Traces.{prepared, prepare-silent, prepare-answered}
 use Rattle.cluster.specs.declared.Shape.{Shape}
 use Rattle.cluster.specs.declared.Phase.the-variants.{Opening}
 use Rattle.cluster.specs.declared.Server.{Server}
@@ -30,7 +30,7 @@ use Rattle.guarantee.proofs.Ties.{Sim, Goes, ReplicaTie, ReplicasTie, O
 use Rattle.guarantee.proofs.Frames.{replica-frame}
 use Rattle.guarantee.proofs.Passing.{neither, is-opening}
 use Rattle.guarantee.proofs.Media.{closed-le, prepared-tie, answered-tie}
-use Rattle.guarantee.proofs.Messages.{Message, message-of, accepts-prepare, is-answered, only-none, only-set, only-then, opening-told, opening-forgets}
+use Rattle.guarantee.proofs.Messages.{Message, message-of, accepts-prepare, is-answered, only-none, only-set, only-then, opening-told, opening-forgets, opening-silent}
 use Rattle.guarantee.proofs.Played.{with-call, Before, Played}
 
 -- an unresolved replica keeps its log, and another keeps no more than its closing mark
@@ -85,7 +85,7 @@ module _ (h : Shape) (x : State) (H : History) (σ : protocol.State) (content lo
     τ = prepared σ z i k
 
     wiped : ReplicaTie (h .places) (left false) (H .standing i) (record { promise = z; mark = k; place = σ .place i })
-        → ReplicasTie (h .replicas) (h .places) (with (h .places) x s i (left false) v .media) (H .standing) (copyOf τ)
+        → ReplicasTie (h .replicas) (h .places) (withMedium (h .places) i (left false) (x .media)) (H .standing) (copyOf τ)
     wiped t =
         replica-frame (h .replicas) (h .places) (x .media) (H .standing) (copyOf σ) (S .replicas) i (M .replica) (left false)
         (H .standing) (copyOf τ) (λ j n. refl) (λ j n. rw (upd-other (σ .promise) i z j n, upd-other (σ .mark) i k j n))
@@ -108,29 +108,11 @@ module _ (h : Shape) (x : State) (H : History) (σ : protocol.State) (content lo
         let c = closed-mark to (σ .mark i) (row .unresolved i (M .replica) ∙ u) in
         omega (arith, c .2, row .closing i (c .0) (M .replica) (c .1))
 
-  -- nothing was written, and there is no answer
-  forgets : (m′ : List ℕ) → ReplicaTie (h .places) m′ (H .standing i) (copyOf σ i) → Goes h σ (with (h .places) x s i m′ (unheard v i)) H
-  forgets m′ t = (
-    after-forget σ z i,
-    forgotten σ z i,
-    record {
-      R = S .R;
-      Q = S .Q;
-      register = S .register;
-      replicas =
-          replica-frame (h .replicas) (h .places) (x .media) (H .standing) (copyOf σ) (S .replicas) i (M .replica) m′
-          (H .standing) (copyOf σ) (λ j n. refl) (λ j n. refl) t;
-      servers =
-          opening-forgets h x H σ S s i f given M opening (σ .known) (σ .recorded) (only-none (σ .known) z i) (only-none (σ .recorded) z i);
-      sessions = S .sessions;
-    },
-  )
-
   goes : (c b : Bool) → refusesPrepare z m ≡ c → answered f ≡ b
       → Goes h σ (with (h .places) x s i (left c) (cond b (heard v i (markOf (h .places) (left c))) (unheard v i))) H
   goes true true e a =
-      absurd (true≢false (sym e ∙ accepts-prepare (answered f) (noSlot m) (promiseAbove z m) (B .passed .slot) (B .passed .promise) a))
-  goes true false e a = forgets m T
+      absurd (true≢false (sym e ∙ accepts-prepare z m f (B .passed .slot) (B .passed .promise) a))
+  goes true false e a = opening-silent h x H σ S s i f given M opening m T
   goes false true e a =
       let t =
       answered-tie (h .places) f given m (H .standing i) (copyOf σ i) T (M .harmless) z to (stored e) session-fits (is-answered f a) in
@@ -153,7 +135,7 @@ module _ (h : Shape) (x : State) (H : History) (σ : protocol.State) (content lo
         },
       )
   goes false false e a =
-      ⊎-elim (forgets (left false))
+      ⊎-elim (opening-silent h x H σ S s i f given M opening (left false))
       (λ w.
       let k = w .upto in (
         prepared σ z i k,

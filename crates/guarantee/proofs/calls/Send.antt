@@ -15,7 +15,7 @@ use Rattle.cluster.specs.declared.Phase.the-variants.{Open}
 use Rattle.cluster.specs.declared.Server.{Server}
 use Rattle.cluster.specs.declared.Call.the-variants as call
 use Rattle.cluster.specs.State.{State, serverAt, markAt, activeAt, tableAt}
-use Rattle.cluster.specs.Refusals.{answered, noSlot, promiseDiffers, markDiffers, refusesAt}
+use Rattle.cluster.specs.Refusals.{refusesAt}
 use Rattle.guarantee.specs.History.{Transaction, History, transactionIn, told}
 use Rattle.guarantee.proofs.Ties.{Sim, ReplicaTie, OpenTie, copyOf, rowOf, loggedOf, transactionOf}
 use Rattle.guarantee.proofs.Passing.{is-open}
@@ -116,5 +116,5 @@ module _ (h : Shape) (x : State) (H : History) (σ : protocol.State) (content lo
   unfolding told
   send-played =
       open-append h x H σ S (B .inv) s i f given M opened active issues (v .held)
-      (accepts (answered f) (noSlot m) (promiseDiffers z m) (markDiffers (h .places) (markAt v i) m) (B .passed .slot) (B .passed .promise) (B .passed .mark))
+      (accepts (h .places) v (x .media) i f (B .passed .slot) (B .passed .promise) (B .passed .mark))
       sends (λ n. n) (λ n. omega arith)

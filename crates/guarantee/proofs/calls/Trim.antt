@@ -1,7 +1,6 @@
 -- trim: the log becomes a part of itself that reaches the decided mark, as far as the wiping came; a silent replica is forgotten.
 -- Assumes nothing.
 use mathlib.Core.Path.{_≡_, refl, sym, _∙_}
-use mathlib.Core.Logic.{_≢_}
 use mathlib.Core.Bool.{Bool, true, false, cond, true≢false}
 use mathlib.Core.List.{List}
 use Prim.Native.Nat.{ℕ, _<_}
@@ -10,26 +9,26 @@ use borrow.Author.Tests.{ltb-true, not-false}
 use Rattle.fate.specs.declared.Fate.{Fate}
 use Rattle.quorum.specs.Vote.{decided}
 use Rattle.storage.specs.Log.{markOf}
-use Rattle.storage.specs.Operations.{mediumAt, trimWrites}
+use Rattle.storage.specs.Operations.{mediumAt, withMedium, trimWrites}
 use Rattle.protocol.specs.State as protocol
 use Rattle.protocol.specs.Columns.{upd²}
 use Rattle.protocol.specs.Events.{after-forget, after-trim, Can-trim}
 use Rattle.protocol.proofs.Columns.{upd-same, upd-other, upd²-at}
-use Rattle.protocol.proofs.Traces.{forgotten, trim-answered, trim-silent}
+use Rattle.protocol.proofs.Traces.{trim-answered, trim-silent}
 use Rattle.cluster.specs.declared.Shape.{Shape}
 use Rattle.cluster.specs.declared.Phase.the-variants.{Opening}
 use Rattle.cluster.specs.declared.Server.{Server}
 use Rattle.cluster.specs.declared.Call.the-variants as call
 use Rattle.cluster.specs.State.{State, serverAt, markAt, activeAt}
-use Rattle.cluster.specs.Refusals.{answered, noSlot, promiseDiffers, markDiffers, refusesAt, voteMark}
+use Rattle.cluster.specs.Refusals.{answered, refusesAt, voteMark}
 use Rattle.cluster.specs.Effects.{heard, unheard, mediumAfter, with, trimEffect}
 use Rattle.guarantee.specs.History.{History, told}
-use Rattle.guarantee.proofs.Ties.{Sim, Goes, ReplicaTie, OpeningTie, copyOf, rowOf}
+use Rattle.guarantee.proofs.Ties.{Sim, Goes, ReplicaTie, ReplicasTie, OpeningTie, copyOf, rowOf}
 use Rattle.guarantee.proofs.Frames.{replica-frame}
 use Rattle.guarantee.proofs.Passing.{is-opening}
 use Rattle.guarantee.proofs.Counts.{decided-tie}
 use Rattle.guarantee.proofs.Media.{trimmed, trimmed-tie}
-use Rattle.guarantee.proofs.Messages.{Message, message-of, agrees, accepts, only-none, only-set, opening-told, opening-forgets}
+use Rattle.guarantee.proofs.Messages.{Message, message-of, agrees, accepts, only-none, only-set, opening-told, opening-forgets, opening-silent}
 use Rattle.guarantee.proofs.Played.{with-call, Before, Played}
 
 module _ (h : Shape) (x : State) (H : History) (σ : protocol.State) (content locks given : List ℕ) (reader s i : ℕ) (f : Fate)
@@ -96,29 +95,16 @@ module _ (h : Shape) (x : State) (H : History) (σ : protocol.State) (content lo
   unfolding k
   cut-tie = rw (upd-same (σ .mark) i k) (trimmed-tie (h .places) f given m (H .standing i) (copyOf σ i) T (M .harmless) D)
 
-  others : (j : ℕ) → i ≢ j → copyOf (after-trim σ z i k) j ≡ copyOf σ j
-  others j n = rw (upd-other (σ .mark) i k j n)
+  cut : ReplicasTie (h .replicas) (h .places) (withMedium (h .places) i (left false) (x .media)) (H .standing) (copyOf (after-trim σ z i k))
+  cut =
+      replica-frame (h .replicas) (h .places) (x .media) (H .standing) (copyOf σ) (S .replicas) i (M .replica) (left false)
+      (H .standing) (copyOf (after-trim σ z i k)) (λ j n. refl) (λ j n. rw (upd-other (σ .mark) i k j n)) cut-tie
 
   goes : (c b : Bool) → refusesAt (h .places) v (x .media) i ≡ c → answered f ≡ b
       → Goes h σ (with (h .places) x s i (left c) (cond b (heard v i (markOf (h .places) (left c))) (unheard v i))) H
   goes true true e a =
-      absurd (true≢false (sym e ∙ accepts (answered f) (noSlot m) (promiseDiffers z m) (markDiffers (h .places) (markAt v i) m)
-      (B .passed .slot) (B .passed .promise) (B .passed .mark) a))
-  goes true false e a = (
-    after-forget σ z i,
-    forgotten σ z i,
-    record {
-      R = S .R;
-      Q = S .Q;
-      register = S .register;
-      replicas =
-          replica-frame (h .replicas) (h .places) (x .media) (H .standing) (copyOf σ) (S .replicas) i (M .replica) m
-          (H .standing) (copyOf σ) (λ j n. refl) (λ j n. refl) T;
-      servers =
-          opening-forgets h x H σ S s i f given M opening (σ .known) (σ .recorded) (only-none (σ .known) z i) (only-none (σ .recorded) z i);
-      sessions = S .sessions;
-    },
-  )
+      absurd (true≢false (sym e ∙ accepts (h .places) v (x .media) i f (B .passed .slot) (B .passed .promise) (B .passed .mark) a))
+  goes true false e a = opening-silent h x H σ S s i f given M opening m T
   goes false true e a = (
     after-trim σ z i k,
     trim-answered σ z i D k (can e),
@@ -126,9 +112,7 @@ module _ (h : Shape) (x : State) (H : History) (σ : protocol.State) (content lo
       R = S .R;
       Q = S .Q;
       register = S .register;
-      replicas =
-          replica-frame (h .replicas) (h .places) (x .media) (H .standing) (copyOf σ) (S .replicas) i (M .replica) (left false)
-          (H .standing) (copyOf (after-trim σ z i k)) (λ j n. refl) others cut-tie;
+      replicas = cut;
       servers =
           opening-told h x H σ S s i f given M opening true (markOf (h .places) (left false)) (σ .known) (upd² (σ .recorded) z i k)
           (only-none (σ .known) z i) (only-set (σ .recorded) z i k) known
@@ -143,9 +127,7 @@ module _ (h : Shape) (x : State) (H : History) (σ : protocol.State) (content lo
       R = S .R;
       Q = S .Q;
       register = S .register;
-      replicas =
-          replica-frame (h .replicas) (h .places) (x .media) (H .standing) (copyOf σ) (S .replicas) i (M .replica) (left false)
-          (H .standing) (copyOf (after-trim σ z i k)) (λ j n. refl) others cut-tie;
+      replicas = cut;
       servers =
           opening-forgets h x H σ S s i f given M opening (σ .known) (upd² (σ .recorded) z i k) (only-none (σ .known) z i)
           (only-set (σ .recorded) z i k);

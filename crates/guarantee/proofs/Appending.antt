@@ -30,7 +30,7 @@ use Rattle.cluster.specs.declared.Server.{Server}
 use Rattle.cluster.specs.State.{State, serverAt, markAt, memberAt, activeAt, tableAt}
 use Rattle.cluster.specs.Replies.{ok, silent}
 use Rattle.cluster.specs.Refusals.{answered, isOpen, refusesAt}
-use Rattle.cluster.specs.Effects.{withReplica, heard, unheard, acknowledge, mediumAfter, afterMessage, replyTo, with, appendEffect}
+use Rattle.cluster.specs.Effects.{withReplica, heard, unheard, acknowledge, mediumAfter, afterMessage, replyTo, withMediumAndServer, appendEffect}
 use Rattle.guarantee.specs.History.{Transaction, History, valueOr, validAt, put, acknowledging}
 use Rattle.guarantee.proofs.Ties.{copyOf, rowOf, storyOf, transactionOf, ReplicaTie, OpenTie, SessionsTie, Sim, Goes}
 use Rattle.guarantee.proofs.Blocks.{block-same}
@@ -151,7 +151,7 @@ module _ (h : Shape) (x : State) (H : History) (σ : protocol.State) (S : Sim h 
     higher = can .highest (σ .acknowledged z) (steps-inv steps I .acks .reached z live)
 
     abbrev y : State
-    y = with (h .places) x s b m′ (acknowledge (h .replicas) w)
+    y = withMediumAndServer (h .places) x s b m′ (acknowledge (h .replicas) w)
 
     abbrev K : History
     K = acknowledging (put (h .places) x y b new H) z ack
@@ -203,7 +203,7 @@ module _ (h : Shape) (x : State) (H : History) (σ : protocol.State) (S : Sim h 
   -- the state and the history, by the server's record
   abbrev Result : List ℕ → ℕ → Bool → Server → Type 0
   Result bs ack c w′ =
-      let y = with (h .places) x s b (left bs c) w′ in
+      let y = withMediumAndServer (h .places) x s b (left bs c) w′ in
       Goes h σ y (acknowledging (put (h .places) x y b new H) (H .current s) ack)
 
   -- nothing was written, and there is no answer

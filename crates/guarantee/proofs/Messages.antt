@@ -29,7 +29,7 @@ use Rattle.cluster.specs.declared.Phase.the-variants.{Idle, Opening, Open}
 use Rattle.cluster.specs.declared.Server.{Server}
 use Rattle.cluster.specs.State.{State, noServer, serverAt, markAt, memberAt, activeAt, tableAt}
 use Rattle.cluster.specs.Refusals.{markAbove, isOpen, unfit, noSlot, promiseAbove, promiseDiffers, markDiffers, refusesPrepare, refuses, refusesAt, answered}
-use Rattle.cluster.specs.Effects.{withReplica, heard, unheard, acknowledge, afterMessage, with}
+use Rattle.cluster.specs.Effects.{withReplica, heard, unheard, acknowledge, afterMessage, withMediumAndServer}
 use Rattle.guarantee.specs.History.{History}
 use Rattle.guarantee.specs.Guarantee.{InRange}
 use Rattle.guarantee.proofs.Ties.{Row, copyOf, rowOf, ReplicaTie, OpeningTie, OpenTie, Sized, ServersTie, Sim, Goes}
@@ -350,7 +350,7 @@ module _ (h : Shape) (x : State) (H : History) (σ : protocol.State) (S : Sim h 
       (upd²-at known z i false z i refl refl) (λ e. absurd (true≢false (sym e))))
 
   -- nothing was written, and there is no answer
-  pub opening-silent : (m : List ℕ) → ReplicaTie (h .places) m (H .standing i) (copyOf σ i) → Goes h σ (with (h .places) x s i m (unheard v′ i)) H
+  pub opening-silent : (m : List ℕ) → ReplicaTie (h .places) m (H .standing i) (copyOf σ i) → Goes h σ (withMediumAndServer (h .places) x s i m (unheard v′ i)) H
   opening-silent m t = (
     after-forget σ z i,
     forgotten σ z i,

@@ -32,7 +32,7 @@ use Rattle.cluster.specs.declared.Call.the-variants as call
 use Rattle.cluster.specs.State.{State, serverAt, markAt, activeAt, tableAt}
 use Rattle.cluster.specs.Replies.{ok}
 use Rattle.cluster.specs.Refusals.{answered, isOpen, refusesAt}
-use Rattle.cluster.specs.Effects.{heard, unheard, acknowledge, mediumAfter, afterMessage, replyTo, with, appendEffect}
+use Rattle.cluster.specs.Effects.{heard, unheard, acknowledge, mediumAfter, afterMessage, replyTo, withMediumAndServer, appendEffect}
 use Rattle.guarantee.specs.History.{Session, History, valueOr, put, acknowledging, told}
 use Rattle.guarantee.proofs.Ties.{Sim, Goes, ReplicaTie, OpeningTie, OpenTie, ServersTie, SessionsTie, copyOf, rowOf, storyOf}
 use Rattle.guarantee.proofs.Frames.{replica-frame, session-frame}
@@ -180,7 +180,7 @@ module _ (h : Shape) (x : State) (H : History) (σ : protocol.State) (content lo
   -- the state and the history, by the server's record and the value answered
   abbrev Result : Bool → Server → ℕ → Type 0
   Result c w n =
-      let y = with (h .places) x s b (left c) w in
+      let y = withMediumAndServer (h .places) x s b (left c) w in
       Goes h σ y (acknowledging (put (h .places) x y b (H .standing a) H) (H .current s) (cond (H .sessions (H .current s) .opened) n 0))
 
   module _ (p : v .phase ≡ Opening) where

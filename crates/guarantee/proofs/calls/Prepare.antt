@@ -24,7 +24,7 @@ use Rattle.cluster.specs.declared.Server.{Server}
 use Rattle.cluster.specs.declared.Call.the-variants as call
 use Rattle.cluster.specs.State.{State, serverAt, entryAt}
 use Rattle.cluster.specs.Refusals.{answered, noSlot, promiseAbove, refusesPrepare}
-use Rattle.cluster.specs.Effects.{heard, unheard, mediumAfter, with, prepareEffect}
+use Rattle.cluster.specs.Effects.{heard, unheard, mediumAfter, withMediumAndServer, prepareEffect}
 use Rattle.guarantee.specs.History.{History, told}
 use Rattle.guarantee.proofs.Ties.{Sim, Goes, ReplicaTie, ReplicasTie, OpeningTie, isUnresolved, copyOf, rowOf}
 use Rattle.guarantee.proofs.Frames.{replica-frame}
@@ -109,7 +109,7 @@ module _ (h : Shape) (x : State) (H : History) (σ : protocol.State) (content lo
         omega (arith, c .2, row .closing i (c .0) (M .replica) (c .1))
 
   goes : (c b : Bool) → refusesPrepare z m ≡ c → answered f ≡ b
-      → Goes h σ (with (h .places) x s i (left c) (cond b (heard v i (markOf (h .places) (left c))) (unheard v i))) H
+      → Goes h σ (withMediumAndServer (h .places) x s i (left c) (cond b (heard v i (markOf (h .places) (left c))) (unheard v i))) H
   goes true true e a =
       absurd (true≢false (sym e ∙ accepts-prepare z m f (B .passed .slot) (B .passed .promise) a))
   goes true false e a = opening-silent h x H σ S s i f given M opening m T

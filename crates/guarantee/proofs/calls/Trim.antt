@@ -21,7 +21,7 @@ use Rattle.cluster.specs.declared.Server.{Server}
 use Rattle.cluster.specs.declared.Call.the-variants as call
 use Rattle.cluster.specs.State.{State, serverAt, markAt, activeAt}
 use Rattle.cluster.specs.Refusals.{answered, refusesAt, voteMark}
-use Rattle.cluster.specs.Effects.{heard, unheard, mediumAfter, with, trimEffect}
+use Rattle.cluster.specs.Effects.{heard, unheard, mediumAfter, withMediumAndServer, trimEffect}
 use Rattle.guarantee.specs.History.{History, told}
 use Rattle.guarantee.proofs.Ties.{Sim, Goes, ReplicaTie, ReplicasTie, OpeningTie, copyOf, rowOf}
 use Rattle.guarantee.proofs.Frames.{replica-frame}
@@ -101,7 +101,7 @@ module _ (h : Shape) (x : State) (H : History) (σ : protocol.State) (content lo
       (H .standing) (copyOf (after-trim σ z i k)) (λ j n. refl) (λ j n. rw (upd-other (σ .mark) i k j n)) cut-tie
 
   goes : (c b : Bool) → refusesAt (h .places) v (x .media) i ≡ c → answered f ≡ b
-      → Goes h σ (with (h .places) x s i (left c) (cond b (heard v i (markOf (h .places) (left c))) (unheard v i))) H
+      → Goes h σ (withMediumAndServer (h .places) x s i (left c) (cond b (heard v i (markOf (h .places) (left c))) (unheard v i))) H
   goes true true e a =
       absurd (true≢false (sym e ∙ accepts (h .places) v (x .media) i f (B .passed .slot) (B .passed .promise) (B .passed .mark) a))
   goes true false e a = opening-silent h x H σ S s i f given M opening m T

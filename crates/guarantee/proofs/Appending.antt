@@ -11,6 +11,7 @@ use lib.ListN.{length}
 use Rattle.quorum.specs.Vote.{majorityMark}
 use Rattle.fate.specs.declared.Fate.{Fate}
 use Rattle.fate.specs.declared.Fate.the-variants.{Answered}
+use Rattle.fate.specs.Fates.{after}
 use Rattle.storage.specs.Sizes.{mediumSize}
 use Rattle.storage.specs.Places.{validPlace}
 use Rattle.storage.specs.Log.{placeAt, markOf}
@@ -68,21 +69,42 @@ module _ (h : Shape) (x : State) (H : History) (σ : protocol.State) (S : Sim h 
         v,
       )
 
-  -- the log stayed, or it got x
+  -- the log stayed, or it got y's record
   pub put-kept : ReplicaTie (h .places) m′ (H .standing b) (copyOf σ b)
       → ReplicaTie (h .places) m′ (standing-after (h .places) x H b m′ new) (copyOf σ b)
   put-kept t = other-standing (h .places) m′ (H .standing b) (standing-after (h .places) x H b m′ new) (copyOf σ b) t put-old
 
   pub put-grown : (bs : List ℕ) (y : Tx) → Grown (h .places) bs m m′ → bs ≡ y .bytes → σ .mark b < h .places
       → new (suc (σ .mark b)) ≡ some (transactionOf y)
-      → ReplicaTie (h .places) m′ (standing-after (h .places) x H b m′ new)
-      (record { promise = σ .promise b; mark = suc (σ .mark b); place = upd (σ .place b) (suc (σ .mark b)) y })
+      → ReplicaTie (h .places) m′ (standing-after (h .places) x H b m′ new) (copyOf (after-append σ b y) b)
   put-grown bs y g e room q =
       let k = more-mark (h .places) m m′ bs (H .standing b) (copyOf σ b) T (g .log) in
-      more-tie (h .places) m m′ bs (H .standing b) (copyOf σ b) T (g .log) y e (g .sound) (g .slots)
+      rw (upd-same (σ .mark) b (suc (σ .mark b)), upd-same (σ .place) b (upd (σ .place b) (suc (σ .mark b)) y))
+      (more-tie (h .places) m m′ bs (H .standing b) (copyOf σ b) T (g .log) y e (g .sound) (g .slots)
       (standing-after (h .places) x H b m′ new) put-old
       (put-new (g .sound .size) (suc (σ .mark b)) (omega arith) (omega arith)
-      (valid-place (h .places) m′ (suc (σ .mark b)) (omega arith) (omega (arith, k))) ∙ q)
+      (valid-place (h .places) m′ (suc (σ .mark b)) (omega arith) (omega (arith, k))) ∙ q))
+
+-- the other logs stay
+pub append-others : (σ : protocol.State) (b : ℕ) (y : Tx) (j : ℕ) → b ≢ j → copyOf (after-append σ b y) j ≡ copyOf σ j
+append-others σ b y j o =
+    rw (upd-other (σ .mark) b (suc (σ .mark b)) j o, upd-other (σ .place) b (upd (σ .place b) (suc (σ .mark b)) y) j o)
+
+-- a message that is not declined: b's log stays, and there is no answer, or it gets the record
+pub append-cases : (h : Shape) (x : State) (H : History) (σ : protocol.State) → Sim h x H σ → (s b : ℕ) (f : Fate) (given : List ℕ)
+    → Message h x s b f given → let v = serverAt (x .records) s in
+    refusesAt (h .places) v (x .media) b ≡ false → (bs : List ℕ) → σ .mark b < h .places → validPlace (suc (σ .mark b)) bs ≡ true
+    → let m = mediumAt (h .places) b (x .media) in
+    let m′ = after f given (appendWrites (markAt v b) bs) m in
+    ((f ≡ Answered → ⊥) × ReplicaTie (h .places) m′ (H .standing b) (copyOf σ b)) ⊎ Grown (h .places) bs m m′
+append-cases h x H σ S s b f given M e bs room valid =
+    let v = serverAt (x .records) s in
+    let m = mediumAt (h .places) b (x .media) in
+    let T = S .replicas .each b (M .replica) in
+    let q = agrees (h .places) v b m e .mark in
+    let k : markAt v b ≡ σ .mark b = sym q ∙ T .mark in
+    appended-cases (h .places) f given m (H .standing b) (copyOf σ b) T (M .harmless) bs (markAt v b) q (omega arith)
+    (subst⁻¹ (λ (n : ℕ). validPlace (suc n) bs ≡ true) k valid)
 
 -- ================ an open server
 
@@ -95,7 +117,7 @@ answers : (d : Bool) (q : Phase) (n k : ℕ) → q ≡ Open → valueOr 0 (cond 
 answers true q n k e = rw e (omega arith)
 answers false q n k e = omega arith
 
--- a record of x's that may come behind b's log
+-- bytes that may come behind b's log: the record of a transaction that `new` names
 pub record Appendable (h : Shape) (σ : protocol.State) (z b : ℕ) (bs : List ℕ) (new : ℕ → Option Transaction) : Type 0 where
   pub tx : Tx
   pub can : Can-append σ z b tx
@@ -226,13 +248,7 @@ module _ (h : Shape) (x : State) (H : History) (σ : protocol.State) (S : Sim h 
         sym (row .recorded b (M .replica) member) ∙ sym (agrees (h .places) v b medium e .mark) ∙ S .replicas .each b (M .replica) .mark
 
     grown : ReplicaTie (h .places) (left bs false) (standing-after (h .places) x H b (left bs false) new) (copyOf (after-append σ b t) b)
-    grown =
-        rw (upd-same (σ .mark) b (suc (σ .mark b)), upd-same (σ .place) b (upd (σ .place b) (suc (σ .mark b)) t))
-        (put-grown h x H σ S b (M .replica) (left bs false) new bs t g (A .bytes) (A .room) (A .whose))
-
-    elsewhere : (j : ℕ) → b ≢ j → copyOf (after-append σ b t) j ≡ copyOf σ j
-    elsewhere j o =
-        rw (upd-other (σ .mark) b (suc (σ .mark b)) j o, upd-other (σ .place) b (upd (σ .place b) (suc (σ .mark b)) t) j o)
+    grown = put-grown h x H σ S b (M .replica) (left bs false) new bs t g (A .bytes) (A .room) (A .whose)
 
     appended : Steps σ (after-append σ b t)
     appended = Steps.none ▸ Step.append σ z b t (A .can)
@@ -242,7 +258,7 @@ module _ (h : Shape) (x : State) (H : History) (σ : protocol.State) (S : Sim h 
     silent-sent ack le =
         let q = unheard-open v b p in
         subst⁻¹ (λ (w : Server). Result bs ack false (acknowledge (h .replicas) w)) q
-        (acknowledges (append-mark (σ .mark) b) (append-place (σ .place) (σ .mark) b t) (σ .recorded) appended elsewhere (only-none (σ .recorded) z b)
+        (acknowledges (append-mark (σ .mark) b) (append-place (σ .place) (σ .mark) b t) (σ .recorded) appended (append-others σ b t) (only-none (σ .recorded) z b)
         (left bs false) grown true (markAt v b) (row .recorded b (M .replica) member) ack
         (omega (arith, le, ap (λ (w : Server). acknowledge (h .replicas) w .acked) q)))
 
@@ -258,17 +274,8 @@ module _ (h : Shape) (x : State) (H : History) (σ : protocol.State) (S : Sim h 
           promise = A .can .promise;
           up = omega (arith, recorded-is, upd-same (σ .mark) b (suc (σ .mark b)));
         }))
-        elsewhere (only-set (σ .recorded) z b (mark b)) (left bs false) grown false (markOf (h .places) (left bs false))
+        (append-others σ b t) (only-set (σ .recorded) z b (mark b)) (left bs false) grown false (markOf (h .places) (left bs false))
         (grown .mark ∙ sym (upd²-at (σ .recorded) z b (mark b) z b refl refl)) ack le
-
-  cases : (bs : List ℕ) → refusesAt (h .places) v (x .media) b ≡ false → Appendable h σ z b bs new
-      → ((f ≡ Answered → ⊥) × ReplicaTie (h .places) (left bs false) (H .standing b) (copyOf σ b)) ⊎ Grown (h .places) bs medium (left bs false)
-  cases bs e A =
-      let T = S .replicas .each b (M .replica) in
-      let q = agrees (h .places) v b medium e .mark in
-      let k : σ .mark b ≡ markAt v b = sym (T .mark) ∙ q in
-      appended-cases (h .places) f given medium (H .standing b) (copyOf σ b) T (M .harmless) bs (markAt v b) q
-      (omega (arith, A .room)) (rw k at (A .valid))
 
   open-appends : (bs : List ℕ) (ack : ℕ) (c d : Bool) → refusesAt (h .places) v (x .media) b ≡ c → answered f ≡ d
       → (answered f ≡ true → refusesAt (h .places) v (x .media) b ≡ false)
@@ -277,9 +284,11 @@ module _ (h : Shape) (x : State) (H : History) (σ : protocol.State) (S : Sim h 
   open-appends bs ack true true e q accepts A le = absurd (true≢false (sym e ∙ accepts q))
   open-appends bs ack true false e q accepts A le = unsent bs ack true (S .replicas .each b (M .replica)) le
   open-appends bs ack false true e q accepts A le =
-      ⊎-elim (λ t. absurd (t .0 (is-answered f q))) (λ g. heard-sent bs e (A e) g ack le) (cases bs e (A e))
+      ⊎-elim (λ t. absurd (t .0 (is-answered f q))) (λ g. heard-sent bs e (A e) g ack le)
+      (append-cases h x H σ S s b f given M e bs (A e .room) (A e .valid))
   open-appends bs ack false false e q accepts A le =
-      ⊎-elim (λ t. unsent bs ack false (t .1) le) (λ g. silent-sent bs e (A e) g ack le) (cases bs e (A e))
+      ⊎-elim (λ t. unsent bs ack false (t .1) le) (λ g. silent-sent bs e (A e) g ack le)
+      (append-cases h x H σ S s b f given M e bs (A e .room) (A e .valid))
 
   -- send and copy, of which the history takes no more than the answer
   pub open-append : (bs : List ℕ) → (answered f ≡ true → refusesAt (h .places) v (x .media) b ≡ false)

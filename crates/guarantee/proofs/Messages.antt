@@ -11,6 +11,7 @@ use lib.ListN.{length, getD, set, length-set}
 use lib.Seq.{getD-set-same, getD-set-other}
 use lib.Dec.{leb}
 use borrow.Author.Tests.{leb-false, eqb-true, not-false}
+use Rattle.base.proofs.Tests.{both}
 use Rattle.fate.specs.declared.Fate.{Fate}
 use Rattle.fate.specs.declared.Fate.the-variants.{Answered, Lost, AnswerLost, Cut}
 use Rattle.storage.specs.Sizes.{placeSize}
@@ -25,7 +26,7 @@ use Rattle.protocol.proofs.Columns.{upd-other, upd²-at, upd²-other}
 use Rattle.protocol.proofs.Traces.{forgotten}
 use Rattle.cluster.specs.declared.Shape.{Shape}
 use Rattle.cluster.specs.declared.Phase.{Phase}
-use Rattle.cluster.specs.declared.Phase.the-variants.{Idle, Opening, Open}
+use Rattle.cluster.specs.declared.Phase.the-variants.{Opening, Open}
 use Rattle.cluster.specs.declared.Server.{Server}
 use Rattle.cluster.specs.State.{State, noServer, serverAt, markAt, memberAt, activeAt, tableAt}
 use Rattle.cluster.specs.Refusals.{markAbove, isOpen, unfit, noSlot, promiseAbove, promiseDiffers, markDiffers, refusesPrepare, refuses, refusesAt, answered}
@@ -35,7 +36,7 @@ use Rattle.guarantee.specs.Guarantee.{InRange}
 use Rattle.guarantee.proofs.Ties.{Row, copyOf, rowOf, ReplicaTie, OpeningTie, OpenTie, Sized, ServersTie, Sim, Goes}
 use Rattle.guarantee.proofs.Frames.{replica-frame, stay-frame}
 use Rattle.guarantee.proofs.Passing.{neither, harmless, Within, within}
-use Rattle.guarantee.proofs.Facts.{at-most-seven}
+use Rattle.guarantee.proofs.Facts.{opening-lives, open-lives, at-most-seven}
 
 -- ================ what the list leaves
 
@@ -47,7 +48,7 @@ pub record Message (h : Shape) (x : State) (s i : ℕ) (f : Fate) (given : List 
   pub harmless : Harmless (h .places) f given
   pub within : Within (h .replicas) (h .places) (serverAt (x .records) s)
 
--- 2, 3, 4, 6
+-- refusals 2, 3, 4 and 6
 pub message-of : (h : Shape) (x : State) (s i : ℕ) (f : Fate) (given : List ℕ) → InRange h → length given ≡ placeSize
     → markAbove h (x .records) ≡ false → s < 4 → leb (h .replicas) i ≡ false → unfit (h .places) given f ≡ false → Message h x s i f given
 message-of h x s i f given r g m l b u =
@@ -59,7 +60,7 @@ message-of h x s i f given r g m l b u =
       within = within h x s m l;
     }
 
--- a replica that does not decline: 19, 20
+-- a replica that does not decline: refusals 19 and 20
 pub record Agrees (N : ℕ) (v : Server) (i : ℕ) (m : List ℕ) : Type 0 where
   pub promise : storedSlot m .promise ≡ v .session
   pub mark : markOf N m ≡ markAt v i
@@ -74,12 +75,12 @@ agrees N v i m e =
       mark = eqb-true (markOf N m) (markAt v i) (not-false _ (a .1));
     }
 
--- 18 to 20, which are seen if the message is answered: a replica that answers does not decline
+-- refusals 18 to 20, which are seen if the message is answered: a replica that answers does not decline
 neither-seen : (answer a b : Bool) → (answer && a) ≡ false → (answer && b) ≡ false → answer ≡ true → (a || b) ≡ false
 neither-seen true a b p q e = rw (p, q)
 neither-seen false a b p q e = absurd (true≢false (sym e))
 
--- prepare's, 18 and 19
+-- prepare's are 18 and 19
 pub accepts-prepare : (session : ℕ) (m : List ℕ) (f : Fate) → (answered f && noSlot m) ≡ false → (answered f && promiseAbove session m) ≡ false
     → answered f ≡ true → refusesPrepare session m ≡ false
 accepts-prepare session m f = neither-seen (answered f) (noSlot m) (promiseAbove session m)
@@ -99,13 +100,9 @@ is-answered Lost e = absurd (true≢false (sym e))
 is-answered AnswerLost e = absurd (true≢false (sym e))
 is-answered (Cut w l) e = absurd (true≢false (sym e))
 
--- 7
+-- refusal 7
 pub active-member : (v : Server) (i : ℕ) → activeAt v i ≡ true → memberAt v i ≡ true
-active-member v i e = go (memberAt v i) (not (getD (v .dropped) i false)) e
-  where
-    go : (a b : Bool) → (a && b) ≡ true → a ≡ true
-    go true b e = refl
-    go false b e = e
+active-member v i e = both (memberAt v i) (not (getD (v .dropped) i false)) e .0
 
 -- ================ the server's record
 
@@ -233,33 +230,30 @@ open-acknowledged R v table ρ T =
 module _ (R : ℕ) (servers : List Server) (tables : List ℕ) (current : ℕ → ℕ) (rows : ℕ → Row) (T : ServersTie R servers tables current rows)
     (s : ℕ) (l : s < 4) (w : Server) (rows′ : ℕ → Row) (others : (u : ℕ) → getD servers s noServer .session ≢ u → rows′ u ≡ rows u)
     (session : w .session ≡ getD servers s noServer .session) (sized : Sized w) where
+  abbrev old : Server
+  old = getD servers s noServer
+
   pub opening-frame : getD servers s noServer .phase ≡ Opening → w .phase ≡ Opening → OpeningTie R w (rows′ (getD servers s noServer .session))
       → ServersTie R (set servers s w) tables current rows′
   opening-frame p q new =
-      stay-frame R servers tables current rows T s l awake w rows′ session others
+      stay-frame R servers tables current rows T s l (opening-lives old p) w rows′ session others
       (record {
         sized = sized;
-        current = λ a. T .each s l .current awake ∙ sym session;
+        current = λ a. T .each s l .current (opening-lives old p) ∙ sym session;
         opening = λ a. subst⁻¹ (λ (u : ℕ). OpeningTie R w (rows′ u)) session new;
         serving = λ a. let e : _≡_ {A = ℕ} 0 1 = cc in absurd (omega arith);
       })
-    where
-      awake : getD servers s noServer .phase ≡ Idle → ⊥
-      awake a = let e : _≡_ {A = ℕ} 0 1 = cc in omega arith
 
   pub open-frame : getD servers s noServer .phase ≡ Open → w .phase ≡ Open → OpenTie R w (tableAt s tables) (rows′ (getD servers s noServer .session))
       → ServersTie R (set servers s w) tables current rows′
   open-frame p q new =
-      stay-frame R servers tables current rows T s l awake w rows′ session others
+      stay-frame R servers tables current rows T s l (open-lives old p) w rows′ session others
       (record {
         sized = sized;
-        current = λ a. T .each s l .current awake ∙ sym session;
+        current = λ a. T .each s l .current (open-lives old p) ∙ sym session;
         opening = λ a. let e : _≡_ {A = ℕ} 0 1 = cc in absurd (omega arith);
         serving = λ a. subst⁻¹ (λ (u : ℕ). OpenTie R w (tableAt s tables) (rows′ u)) session new;
       })
-    where
-      awake : getD servers s noServer .phase ≡ Idle → ⊥
-      awake a = let e : _≡_ {A = ℕ} 0 1 = cc in omega arith
 
 -- ================ an open server that learns nothing new
 

@@ -2,7 +2,7 @@
 -- acknowledged mark anew, as after a send.
 -- Assumes nothing.
 use mathlib.Core.Path.{_≡_, refl, sym, ap, _∙_, subst⁻¹}
-use mathlib.Core.Logic.{_⊎_, _≢_, ⊎-elim}
+use mathlib.Core.Logic.{_≢_, ⊎-elim}
 use mathlib.Core.Bool.{Bool, true, false, not, cond, _||_, true≢false}
 use mathlib.Core.List.{List, [], _∷_}
 use Prim.Native.Nat.{ℕ, suc, max, _+_, _≤_, _<_}
@@ -11,7 +11,6 @@ use lib.ListN.{set}
 use lib.Dec.{leb, eqb}
 use borrow.Author.Tests.{leb-false, ltb-true, not-false}
 use Rattle.fate.specs.declared.Fate.{Fate}
-use Rattle.fate.specs.declared.Fate.the-variants.{Answered}
 use Rattle.storage.specs.Places.{validPlace}
 use Rattle.storage.specs.Log.{placeAt, markOf}
 use Rattle.storage.specs.Operations.{mediumAt, appendWrites}
@@ -20,7 +19,7 @@ use Rattle.protocol.specs.State as protocol
 use Rattle.protocol.specs.State.{Tx}
 use Rattle.protocol.specs.Columns.{upd, upd², append-mark, append-place}
 use Rattle.protocol.specs.With.{with-replicas, with-servers}
-use Rattle.protocol.specs.Events.{after-copy, Can-copy, Steps}
+use Rattle.protocol.specs.Events.{after-append, Can-copy, Steps}
 use Rattle.protocol.proofs.Columns.{upd-same, upd-other, upd²-at}
 use Rattle.protocol.proofs.Facts.{unopened}
 use Rattle.protocol.proofs.Traces.{forgotten, copy-answered, copy-silent, copy-is-send}
@@ -38,9 +37,9 @@ use Rattle.guarantee.proofs.Ties.{Sim, Goes, ReplicaTie, OpeningTie, Op
 use Rattle.guarantee.proofs.Frames.{replica-frame, session-frame}
 use Rattle.guarantee.proofs.Passing.{neither, not-idle}
 use Rattle.guarantee.proofs.Facts.{opening-lives, valid-place}
-use Rattle.guarantee.proofs.Media.{Grown, appended-cases}
+use Rattle.guarantee.proofs.Media.{Grown}
 use Rattle.guarantee.proofs.Messages.{Message, message-of, agrees, accepts, is-answered, active-member, only-none, only-set, opening-told, opening-forgets}
-use Rattle.guarantee.proofs.Appending.{standing-after, put-kept, put-grown, open-append}
+use Rattle.guarantee.proofs.Appending.{standing-after, put-kept, put-grown, append-others, append-cases, open-append}
 use Rattle.guarantee.proofs.Played.{with-call, Before, Played}
 
 -- a session that is not opened acknowledges nothing
@@ -242,29 +241,16 @@ module _ (h : Shape) (x : State) (H : History) (σ : protocol.State) (content lo
             more = more e;
           }
 
-      cases : ((f ≡ Answered → ⊥) × ReplicaTie (h .places) (left false) (H .standing b) (copyOf σ b)) ⊎ Grown (h .places) bs m (left false)
-      cases =
-          appended-cases (h .places) f given m (H .standing b) (copyOf σ b) T (M .harmless) bs (markAt v b) (agrees (h .places) v b m e .mark)
-          (omega (arith, room e, mark-b e)) (subst⁻¹ (λ (n : ℕ). validPlace (suc n) bs ≡ true) (mark-b e) (valid e))
-
       module _ (g : Grown (h .places) bs m (left false)) where
-        abbrev written : protocol.State
-        written = after-copy σ z a b
-
-        grown : ReplicaTie (h .places) (left false) (standing-after (h .places) x H b (left false) (H .standing a)) (copyOf written b)
+        grown : ReplicaTie (h .places) (left false) (standing-after (h .places) x H b (left false) (H .standing a)) (copyOf (after-append σ b (tx e)) b)
         grown =
-            rw (upd-same (σ .mark) b (suc (σ .mark b)), upd-same (σ .place) b (upd (σ .place b) (suc (σ .mark b)) (tx e)))
-            (put-grown h x H σ S b (M .replica) (left false) (H .standing a) bs (tx e) g (bytes e) (room e)
-            (A .whose (suc (σ .mark b)) (omega arith) (more e)))
-
-        elsewhere : (j : ℕ) → b ≢ j → copyOf written j ≡ copyOf σ j
-        elsewhere j o =
-            rw (upd-other (σ .mark) b (suc (σ .mark b)) j o, upd-other (σ .place) b (upd (σ .place b) (suc (σ .mark b)) (tx e)) j o)
+            put-grown h x H σ S b (M .replica) (left false) (H .standing a) bs (tx e) g (bytes e) (room e)
+            (A .whose (suc (σ .mark b)) (omega arith) (more e))
 
         heard-copied : (n : ℕ) → Result false (heard v b (markOf (h .places) (left false))) n
         heard-copied n =
             built false (heard v b (markOf (h .places) (left false))) n (append-mark (σ .mark) b) (append-place (σ .place) (σ .mark) b (tx e))
-            (σ .known) (upd² (σ .recorded) z b (suc (σ .mark b))) (copy-answered σ z a b can) elsewhere grown
+            (σ .known) (upd² (σ .recorded) z b (suc (σ .mark b))) (copy-answered σ z a b can) (append-others σ b (tx e)) grown
             (opening-told h x H σ S s b f given M p true (markOf (h .places) (left false)) (σ .known) (upd² (σ .recorded) z b (suc (σ .mark b)))
             (only-none (σ .known) z b) (only-set (σ .recorded) z b (suc (σ .mark b))) known-b
             (λ q. grown .mark ∙ upd-same (σ .mark) b (suc (σ .mark b)) ∙ sym (upd²-at (σ .recorded) z b (suc (σ .mark b)) z b refl refl)))
@@ -272,7 +258,7 @@ module _ (h : Shape) (x : State) (H : History) (σ : protocol.State) (content lo
         silent-copied : (n : ℕ) → Result false (unheard v b) n
         silent-copied n =
             built false (unheard v b) n (append-mark (σ .mark) b) (append-place (σ .place) (σ .mark) b (tx e)) (upd² (σ .known) z b false)
-            (upd² (σ .recorded) z b (suc (σ .mark b))) (copy-silent σ z a b can) elsewhere grown
+            (upd² (σ .recorded) z b (suc (σ .mark b))) (copy-silent σ z a b can) (append-others σ b (tx e)) grown
             (opening-forgets h x H σ S s b f given M p (σ .known) (upd² (σ .recorded) z b (suc (σ .mark b))) (only-none (σ .known) z b)
             (only-set (σ .recorded) z b (suc (σ .mark b))))
 
@@ -280,8 +266,10 @@ module _ (h : Shape) (x : State) (H : History) (σ : protocol.State) (content lo
         → Result c (cond d (heard v b (markOf (h .places) (left c))) (unheard v b)) n
     goes true true n e q = absurd (true≢false (sym e ∙ accepted q))
     goes true false n e q = forgets true n T
-    goes false true n e q = ⊎-elim (λ t. absurd (t .0 (is-answered f q))) (λ g. heard-copied e g n) (cases e)
-    goes false false n e q = ⊎-elim (λ t. forgets false n (t .1)) (λ g. silent-copied e g n) (cases e)
+    goes false true n e q = ⊎-elim (λ t. absurd (t .0 (is-answered f q))) (λ g. heard-copied e g n)
+        (append-cases h x H σ S s b f given M e bs (room e) (valid e))
+    goes false false n e q = ⊎-elim (λ t. forgets false n (t .1)) (λ g. silent-copied e g n)
+        (append-cases h x H σ S s b f given M e bs (room e) (valid e))
 
     opening-played : Played h x H σ (with-call (call.Copy s a b f) content locks given reader)
     unfolding told appendEffect

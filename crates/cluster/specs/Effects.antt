@@ -4,7 +4,6 @@ use Prim.Native.Nat.{ℕ, _+_}
 use mathlib.Core.List.{List, [], _∷_}
 use mathlib.Core.Bool.{Bool, true, false, cond, not, _&&_}
 use lib.ListN.{set, replicate}
-use lib.Dec.{ltb, eqb}
 use Rattle.base.specs.Below.{upTo}
 use Rattle.quorum.specs.Vote.{majorityMark}
 use Rattle.locks.specs.Locks.{markedAll}
@@ -18,19 +17,14 @@ use Rattle.storage.specs.Sizes.{placeSize}
 use Rattle.storage.specs.Places.{recordBytes}
 use Rattle.storage.specs.Log.{placeAt, markOf}
 use Rattle.storage.specs.Operations.{prepareWrites, trimWrites, appendWrites, noteWrites, mediumAt, withMedium}
-use Rattle.cluster.specs.declared.Shape.{Shape}
 use Rattle.cluster.specs.declared.Entry.{Entry}
 use Rattle.cluster.specs.declared.Register.{Register}
-use Rattle.cluster.specs.declared.Phase.{Phase}
-use Rattle.cluster.specs.declared.Phase.the-variants.{Idle, Opening, Open}
+use Rattle.cluster.specs.declared.Phase.the-variants.{Opening, Open}
 use Rattle.cluster.specs.declared.Server.{Server}
-use Rattle.cluster.specs.declared.Records.{Records}
 use Rattle.cluster.specs.declared.Request.{Request}
-use Rattle.cluster.specs.declared.Call.{Call}
-use Rattle.cluster.specs.declared.Call.the-variants as call
 use Rattle.cluster.specs.State.{State, idleServer, serverAt, putServer, putRegister, entryAt, markAt, memberAt, tableSize, tableAt, withTable}
-use Rattle.cluster.specs.Replies.{Reply, ok, no, silent}
-use Rattle.cluster.specs.Refusals.{Input, answered, isOpen, voteMark, cleanAt, refusesPrepare, refusesAt, sessionAtTop, sessionDiffers}
+use Rattle.cluster.specs.Replies.{Reply, ok, silent}
+use Rattle.cluster.specs.Refusals.{answered, isOpen, voteMark, cleanAt, refusesPrepare, refusesAt, sessionAtTop, sessionDiffers}
 
 -- what a call leaves: the state, the reply, and the 64 bytes that read answers (zeros for any other reply)
 pub record Result : Type 0 where
@@ -97,19 +91,20 @@ mediumAfter declines f given ws m = cond declines m (after f given ws m)
 abbrev pub afterMessage : Fate → Server → ℕ → ℕ → Server
 afterMessage f v i mark = cond (answered f) (heard v i mark) (unheard v i)
 
+-- "No answer means silent"
 abbrev pub replyTo : Fate → Reply → Reply
 replyTo f reply = cond (answered f) reply silent
 
 -- the state with replica i's medium m and server s's record v in it
-abbrev pub with : ℕ → State → ℕ → ℕ → List ℕ → Server → State
-with N x s i m v =
+abbrev pub withMediumAndServer : ℕ → State → ℕ → ℕ → List ℕ → Server → State
+withMediumAndServer N x s i m v =
     record { records = putServer (x .records) s v; media = withMedium N i m (x .media); tables = x .tables }
 
 -- prepare, trim and note: "it answers its mark"
 abbrev pub message : ℕ → State → ℕ → ℕ → Fate → List ℕ → Result
 message N x s i f m =
     record {
-      state = with N x s i m (afterMessage f (serverAt (x .records) s) i (markOf N m));
+      state = withMediumAndServer N x s i m (afterMessage f (serverAt (x .records) s) i (markOf N m));
       reply = replyTo f (ok (markOf N m ∷ []));
       bytes = noBytes;
     }
@@ -158,7 +153,7 @@ appendEffect r N x s b bs f given =
     let w = afterMessage f v b (markOf N m′) in
     let w′ = cond (isOpen (v .phase)) (acknowledge r w) w in
     record {
-      state = with N x s b m′ w′;
+      state = withMediumAndServer N x s b m′ w′;
       reply = replyTo f (ok (cond (isOpen (v .phase)) (w′ .acked) (markOf N m′) ∷ []));
       bytes = noBytes;
     }
@@ -174,7 +169,7 @@ sendEffect r N x s i f given = appendEffect r N x s i (serverAt (x .records) s .
 
 -- ================ messages to the register
 
--- the message arrives, answered or not
+-- a message to the register arrives, answered or not (a cut one is declined, number 6)
 abbrev pub arrives : Fate → Bool
 arrives Answered = true
 arrives Lost = false
@@ -182,8 +177,8 @@ arrives AnswerLost = true
 arrives (Cut w l) = false
 
 -- the records with register and server s replaced
-abbrev pub withBoth : State → ℕ → Register → Server → State
-withBoth x s g v =
+abbrev pub withRegisterAndServer : State → ℕ → Register → Server → State
+withRegisterAndServer x s g v =
     record { records = putServer (putRegister (x .records) g) s v; media = x .media; tables = x .tables }
 
 -- "take (idle): raises the session by 1, hands the server that number, the generation and the entries; the server is opening and knows no
@@ -213,7 +208,7 @@ takeEffect x s f =
     let g = x .records .register in
     let g′ = cond (arrives f && not (sessionAtTop (g .session))) (raisedSession g) g in
     record {
-      state = withBoth x s g′ (cond (answered f) (openingServer g′) idleServer);
+      state = withRegisterAndServer x s g′ (cond (answered f) (openingServer g′) idleServer);
       reply = replyTo f (ok (g′ .session ∷ []));
       bytes = noBytes;
     }

@@ -1,9 +1,9 @@
 -- Why a call is declined: document 01's list, in its order, each number with its condition for each call.
 -- Assumes nothing.
-use Prim.Native.Nat.{ℕ, zero, suc, _+_, _-_, _*_, _^_}
+use Prim.Native.Nat.{ℕ, _+_, _*_, _^_}
 use mathlib.Core.List.{List, [], _∷_}
 use mathlib.Core.Bool.{Bool, true, false, not, cond, _&&_, _||_}
-use lib.ListN.{length, getD}
+use lib.ListN.{length}
 use lib.Dec.{leb, ltb, eqb}
 use Rattle.fate.specs.declared.Fate.{Fate}
 use Rattle.fate.specs.declared.Fate.the-variants.{Answered, Lost, AnswerLost, Cut}
@@ -70,7 +70,7 @@ serverFits h v =
 unfoldable pub markAbove : Shape → Records → Bool
 markAbove h r = not (entriesFit h (r .register .entries) && all (λ s. serverFits h (serverAt r s)) 4)
 
--- 3 "The server number is above 3"
+-- 3 "The server number is above 3". reassign names none: 0 stands there, and no condition of reassign looks at that server.
 abbrev pub serverOf : Call → ℕ
 serverOf (call.Take s f) = s
 serverOf (call.Prepare s i f) = s
@@ -499,3 +499,8 @@ pub data Verdict : Type 0 where
 unfoldable pub firstOf : List Row → Verdict
 firstOf [] = pass
 firstOf (w ∷ ws) = cond (w .holds) (declined (w .number) (w .values)) (firstOf ws)
+
+-- a list checked after another one
+unfoldable pub andThen : Verdict → List Row → Verdict
+andThen pass ws = firstOf ws
+andThen (declined n values) ws = declined n values

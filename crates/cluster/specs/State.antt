@@ -11,7 +11,6 @@ use Rattle.storage.specs.Fresh.{freshMedium}
 use Rattle.cluster.specs.declared.Shape.{Shape}
 use Rattle.cluster.specs.declared.Entry.{Entry}
 use Rattle.cluster.specs.declared.Register.{Register}
-use Rattle.cluster.specs.declared.Phase.{Phase}
 use Rattle.cluster.specs.declared.Phase.the-variants.{Idle}
 use Rattle.cluster.specs.declared.Server.{Server}
 use Rattle.cluster.specs.declared.Records.{Records}

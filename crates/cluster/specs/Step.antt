@@ -1,12 +1,10 @@
 -- One call: unless declined, its effect. This is what the running calls are proved to do and what the guarantee is about.
 -- Assumes nothing.
-use Prim.Native.Nat.{ℕ}
-use mathlib.Core.List.{List}
 use Rattle.cluster.specs.declared.Shape.{Shape}
 use Rattle.cluster.specs.declared.Call.{Call}
 use Rattle.cluster.specs.declared.Call.the-variants as call
 use Rattle.cluster.specs.State.{State}
-use Rattle.cluster.specs.Replies.{Reply, ok, no, silent}
+use Rattle.cluster.specs.Replies.{no}
 use Rattle.cluster.specs.Refusals.{Input, rows, Verdict, pass, declined, firstOf}
 use Rattle.cluster.specs.Effects.{Result, noBytes, prepareEffect, trimEffect, noteEffect, readEffect, copyEffect, sendEffect, takeEffect, openEffect, issueEffect, stopEffect, reassignEffect}
 

@@ -7,6 +7,9 @@
 --   Frames     a call that touches one replica, one server or one session leaves only that one's tie to show
 --   Passing    a call that is not declined, and what each condition of the list says when it does not hold
 --   Counts     the counts of the two agree: decided, acknowledged
+--   Media      a medium after each storage operation, under each fate
+--   Messages   a message to a replica that is not declined, and the server's record after it
+--   Appending  send and copy: whose records then stand there, and what an open server acknowledges
 --   Sessions   a session after an issue, and after what it acknowledges
 --   Registers  the register that an open leaves
 --   Facts      what several calls read off the tie and the invariant
@@ -21,6 +24,7 @@ pub mod Passing
 pub mod Counts
 pub mod Media
 pub mod Messages
+pub mod Appending
 pub mod Sessions
 pub mod Registers
 pub mod Facts

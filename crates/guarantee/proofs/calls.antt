@@ -7,3 +7,7 @@ pub mod Reassign
 pub mod Take
 pub mod Issue
 pub mod Open
+pub mod Trim
+pub mod Prepare
+pub mod Send
+pub mod Copy

@@ -1,3 +1,4 @@
 pub mod Laws
 pub mod Reach
 pub mod Filling
+pub mod Same

@@ -15,7 +15,7 @@ use Rattle.cluster.specs.declared.Shape.{Shape}
 use Rattle.cluster.specs.declared.Server.{Server}
 use Rattle.cluster.specs.declared.Call.the-variants as call
 use Rattle.cluster.specs.State.{State, serverAt, markAt, activeAt}
-use Rattle.cluster.specs.Refusals.{answered, noSlot, promiseDiffers, markDiffers, refusesAt}
+use Rattle.cluster.specs.Refusals.{answered, refusesAt}
 use Rattle.cluster.specs.Effects.{mediumAfter, noteEffect}
 use Rattle.guarantee.specs.History.{History, told}
 use Rattle.guarantee.proofs.Ties.{Sim, ReplicaTie, copyOf}
@@ -52,8 +52,7 @@ module _ (h : Shape) (x : State) (H : History) (σ : protocol.State) (content lo
 
   left-mark : (c : Bool) → refusesAt (h .places) v (x .media) i ≡ c → answered f ≡ true → markOf (h .places) (left c) ≡ markAt v i
   left-mark true e a =
-      absurd (true≢false (sym e ∙ accepts (answered f) (noSlot m) (promiseDiffers (v .session) m) (markDiffers (h .places) (markAt v i) m)
-      (B .passed .slot) (B .passed .promise) (B .passed .mark) a))
+      absurd (true≢false (sym e ∙ accepts (h .places) v (x .media) i f (B .passed .slot) (B .passed .promise) (B .passed .mark) a))
   left-mark false e a =
       noted-mark (h .places) f given m (H .standing i) (copyOf σ i) (S .replicas .each i (M .replica)) (M .harmless) (v .start) (markAt v i)
       (omega (arith, B .range .most, M .within .start)) (omega (arith, B .range .most, M .within .marks i (M .replica)))

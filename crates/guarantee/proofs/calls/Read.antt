@@ -14,7 +14,7 @@ use Rattle.cluster.specs.declared.Shape.{Shape}
 use Rattle.cluster.specs.declared.Server.{Server}
 use Rattle.cluster.specs.declared.Call.the-variants as call
 use Rattle.cluster.specs.State.{State, serverAt, markAt, activeAt}
-use Rattle.cluster.specs.Refusals.{answered, noSlot, promiseDiffers, markDiffers}
+use Rattle.cluster.specs.Refusals.{answered}
 use Rattle.cluster.specs.Effects.{readEffect}
 use Rattle.guarantee.specs.History.{History, told}
 use Rattle.guarantee.proofs.Ties.{Sim}
@@ -40,8 +40,7 @@ module _ (h : Shape) (x : State) (H : History) (σ : protocol.State) (content lo
   found-mark : answered f ≡ true → markOf (h .places) m ≡ markAt v i
   found-mark a =
       agrees (h .places) v i m
-      (accepts (answered f) (noSlot m) (promiseDiffers (v .session) m) (markDiffers (h .places) (markAt v i) m)
-      (B .passed .slot) (B .passed .promise) (B .passed .mark) a)
+      (accepts (h .places) v (x .media) i f (B .passed .slot) (B .passed .promise) (B .passed .mark) a)
       .mark
 
   looked : Sim h (readEffect (h .places) x s i n f .state) H σ

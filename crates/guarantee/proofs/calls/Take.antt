@@ -23,7 +23,7 @@ use Rattle.cluster.specs.declared.Server.{Server}
 use Rattle.cluster.specs.declared.Call.the-variants as call
 use Rattle.cluster.specs.State.{State, idleServer}
 use Rattle.cluster.specs.Refusals.{sessionAtTop}
-use Rattle.cluster.specs.Effects.{withBoth, raisedSession, openingServer, takeEffect}
+use Rattle.cluster.specs.Effects.{withRegisterAndServer, raisedSession, openingServer, takeEffect}
 use Rattle.guarantee.specs.History.{History, withCurrent, told}
 use Rattle.guarantee.proofs.Ties.{Row, rowOf, OpeningTie, ServersTie, RegisterTie, Sim}
 use Rattle.guarantee.proofs.Frames.{Elsewhere, Alone, server-frame, idle-frame}
@@ -46,7 +46,7 @@ module _ (h : Shape) (x : State) (H : History) (σ : protocol.State) (content lo
 
   -- ---- the message does not arrive, or the register declines it
 
-  lost : (c : ℕ) → Sim h (withBoth x s g idleServer) (withCurrent H s c) σ
+  lost : (c : ℕ) → Sim h (withRegisterAndServer x s g idleServer) (withCurrent H s c) σ
   lost c =
       record {
         R = S .R;
@@ -92,7 +92,7 @@ module _ (h : Shape) (x : State) (H : History) (σ : protocol.State) (content lo
           row = λ t k d a. rows _ (next-alone h x H σ S (B .inv) s t k d a);
         }
 
-    unanswered : (c : ℕ) → Sim h (withBoth x s (raisedSession g) idleServer) (withCurrent H s c) τ
+    unanswered : (c : ℕ) → Sim h (withRegisterAndServer x s (raisedSession g) idleServer) (withCurrent H s c) τ
     unanswered c =
         record {
           R = S .R;
@@ -128,7 +128,7 @@ module _ (h : Shape) (x : State) (H : History) (σ : protocol.State) (content lo
           recorded = λ i l e. absurd (false≢true (sym (B .inv .known .nobody z i (omega arith)) ∙ e));
         })
 
-    answered : Sim h (withBoth x s (raisedSession g) w) (withCurrent H s (g .session + 1)) τ
+    answered : Sim h (withRegisterAndServer x s (raisedSession g) w) (withCurrent H s (g .session + 1)) τ
     answered =
         record {
           R = S .R;

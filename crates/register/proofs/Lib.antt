@@ -1,0 +1,4 @@
+pub mod Tops
+pub mod Taken
+pub mod Framed
+pub mod Opened

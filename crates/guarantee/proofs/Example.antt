@@ -34,6 +34,7 @@ use Rattle.cluster.specs.Refusals.{Input, outside, entriesFit, serverFits, mark
 use Rattle.cluster.specs.Effects.{Result, prepareEffect, appendEffect, takeEffect, openedRegister, openedServer, openEffect, issueEffect}
 use Rattle.cluster.specs.Step.{unless, step}
 use Rattle.guarantee.specs.Registers.{changed}
+use Rattle.guarantee.proofs.Guarantee.{guarantee}
 use Rattle.guarantee.specs.Guarantee.{InRange, RequestFits, Fits, Admitted, AdmittedAll, Kept}
 use Rattle.guarantee.specs.History.{Element, Logged, log, History, told, heard, Moment, next, beginning, along}
 
@@ -194,3 +195,7 @@ admitted = (
   take _ 0,
   (prepare _ 0, (opened-for _ 0 Answered 1 first-open, (issues _, (send _, (take _ 1, (prepare _ 1, (opened-for _ 1 AnswerLost 2 second-open, tt))))))),
 )
+
+-- so what it says holds of this list
+pub kept : Kept (along shape (beginning shape) calls .history)
+kept = guarantee shape in-range calls admitted

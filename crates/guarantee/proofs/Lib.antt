@@ -31,5 +31,7 @@ pub mod Facts
 pub mod Fresh
 pub mod Conclusions
 pub mod Played
-pub mod Example
 pub mod calls
+pub mod Along
+pub mod Guarantee
+pub mod Example

@@ -1,6 +1,7 @@
 -- Along a list of calls: each is declined and changes nothing, or is a list of events. So every list of calls is one.
 -- Assumes nothing.
-use mathlib.Core.Path.{_≡_, refl, sym, ap, _∙_, subst}
+use mathlib.Core.Path.{_≡_, refl}
+use mathlib.Core.Bool.{Bool, true, false, cond}
 use mathlib.Core.List.{List, [], _∷_}
 use Prim.Native.Nat.{ℕ}
 use Rattle.protocol.specs.State as protocol
@@ -12,12 +13,13 @@ use Rattle.cluster.specs.declared.Call.{Call}
 use Rattle.cluster.specs.declared.Call.the-variants as call
 use Rattle.cluster.specs.State.{State}
 use Rattle.cluster.specs.Refusals.{Input, rows, Verdict, pass, declined, firstOf}
-use Rattle.cluster.specs.Effects.{Result, prepareEffect, trimEffect, noteEffect, readEffect, appendEffect, takeEffect, openEffect, issueEffect, stopEffect, reassignEffect}
+use Rattle.cluster.specs.Replies.{ok, silent}
 use Rattle.cluster.specs.Step.{effect, unless, step}
+use Rattle.cluster.proofs.Declines.{isAnswered, declines}
 use Rattle.guarantee.specs.History.{Element, History, told, heard, counted, Moment, next, along}
 use Rattle.guarantee.specs.Guarantee.{InRange, Admitted, AdmittedAll}
 use Rattle.guarantee.proofs.Ties.{Sim, Goes}
-use Rattle.guarantee.proofs.Passing.{passed, heard-ok}
+use Rattle.guarantee.proofs.Passing.{passed}
 use Rattle.guarantee.proofs.Played.{with-call, Before, Played, step-passes}
 use Rattle.guarantee.proofs.calls.Prepare.{prepare-played}
 use Rattle.guarantee.proofs.calls.Copy.{copy-played}
@@ -47,20 +49,14 @@ module _ (h : Shape) (x : State) (H : History) (σ : protocol.State) (content lo
   played (call.Stop s) B = stop-played h x H σ content locks given reader s B
   played call.Reassign B = reassign-played h x H σ content locks given reader B
 
--- no effect is replied to with a refusal
-heard-effect : (h : Shape) (x : State) (p : Input) (c : Call) (H K : History) → heard (effect h x p c .reply) H K ≡ K
-unfolding prepareEffect trimEffect noteEffect readEffect appendEffect takeEffect openEffect issueEffect stopEffect reassignEffect heard
-heard-effect h x p (call.Take s f) H K = heard-ok f _ H K
-heard-effect h x p (call.Prepare s i f) H K = heard-ok f _ H K
-heard-effect h x p (call.Copy s a b f) H K = heard-ok f _ H K
-heard-effect h x p (call.Trim s i f) H K = heard-ok f _ H K
-heard-effect h x p (call.Open s f) H K = heard-ok f _ H K
-heard-effect h x p (call.Issue s q) H K = refl
-heard-effect h x p (call.Send s i f) H K = heard-ok f _ H K
-heard-effect h x p (call.Note s i f) H K = heard-ok f _ H K
-heard-effect h x p (call.Read s i n f) H K = heard-ok f _ H K
-heard-effect h x p (call.Stop s) H K = refl
-heard-effect h x p call.Reassign H K = refl
+-- no effect is replied to with a refusal: the history hears of it
+heard-effect : (h : Shape) (x : State) (p : Input) (H K : History) → heard (effect h x p (p .call) .reply) H K ≡ K
+unfolding heard
+heard-effect h x p H K = let r = declines h x p .replies in rw (r .1) (go (isAnswered (p .call)) (r .0))
+  where
+    go : (b : Bool) (values : List ℕ) → heard (cond b (ok values) silent) H K ≡ K
+    go true values = refl
+    go false values = refl
 
 -- the count of the calls is tied to nothing
 counted-tie : (h : Shape) (x : State) (H : History) (σ : protocol.State) → Sim h x H σ → Sim h x (counted H) σ
@@ -78,7 +74,7 @@ module _ (h : Shape) (m : Moment) (e : Element) where
       next h m e ≡ record { state = r .state; history = counted (told h (m .state) e r (m .history) (e .input .call)) }
   unfolding next
   next-passed q =
-      rw (step-passes h (m .state) (e .input) q, heard-effect h (m .state) (e .input) (e .input .call) (m .history) (told h (m .state) e (effect h (m .state) (e .input) (e .input .call)) (m .history) (e .input .call)))
+      rw (step-passes h (m .state) (e .input) q, heard-effect h (m .state) (e .input) (m .history) (told h (m .state) e (effect h (m .state) (e .input) (e .input .call)) (m .history) (e .input .call)))
 
   one-call : InRange h → (σ : protocol.State) → Sim h (m .state) (m .history) σ → Inv σ → Admitted h m e
       → Goes h σ (next h m e .state) (next h m e .history)

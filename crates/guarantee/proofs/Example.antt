@@ -13,7 +13,7 @@ use lib.ListN.{take as first-of, replicate}
 use Rattle.octets.specs.Octets.{Bytes, writeAt, beFrom, beOf, beBytes, fieldsOf, allZero}
 use Rattle.crc32.specs.Crc32.{bitStep, bitSteps, crcFrom, crcOf, checked, sealed}
 use Rattle.fate.specs.declared.Fate.{Fate}
-use Rattle.fate.specs.declared.Fate.the-variants.{Answered, Lost, AnswerLost}
+use Rattle.fate.specs.declared.Fate.the-variants.{Answered, AnswerLost}
 use Rattle.fate.specs.Fates.{allOf, after}
 use Rattle.storage.specs.Places.{padded, recordHead, recordBytes, idOf, sizeOf, validPlace, wiped}
 use Rattle.storage.specs.Slots.{slotBytes, slotOf, validSlot, newer, currentOf, storedSlot}
@@ -22,16 +22,16 @@ use Rattle.storage.specs.Operations.{wipes, promising, closing, prepareWrites}
 use Rattle.storage.specs.Fresh.{freshMedium}
 use Rattle.base.specs.Below.{all, count, highest, upTo}
 use Rattle.quorum.specs.Vote.{backed, majorityMark, decided}
-use Rattle.locks.specs.Locks.{placeOf, estimateOf, markedAt, markedAll, firstHeld}
+use Rattle.locks.specs.Locks.{markedAll, firstHeld}
 use Rattle.protocol.specs.Columns.{upd}
 use Rattle.cluster.specs.declared.Shape.{Shape}
 use Rattle.cluster.specs.declared.Request.{Request}
 use Rattle.cluster.specs.declared.Call.{Call}
 use Rattle.cluster.specs.declared.Call.the-variants as call
 use Rattle.cluster.specs.State.{State, entryAt, freshMedia, fresh}
-use Rattle.cluster.specs.Replies.{Reply, ok, no, silent}
-use Rattle.cluster.specs.Refusals.{Input, outside, entriesFit, serverFits, markAbove, noSlot, promiseAbove, promiseDiffers, markDiffers, rows, firstOf}
-use Rattle.cluster.specs.Effects.{Result, prepareEffect, appendEffect, takeEffect, openedRegister, openedServer, openEffect, issueEffect}
+use Rattle.cluster.specs.Replies.{Reply, ok, silent}
+use Rattle.cluster.specs.Refusals.{outside, entriesFit, serverFits, markAbove, noSlot, promiseAbove, promiseDiffers, markDiffers, rows, firstOf}
+use Rattle.cluster.specs.Effects.{prepareEffect, appendEffect, takeEffect, openedRegister, openedServer, openEffect, issueEffect}
 use Rattle.cluster.specs.Step.{unless, step}
 use Rattle.guarantee.specs.Registers.{changed}
 use Rattle.guarantee.proofs.Guarantee.{guarantee}

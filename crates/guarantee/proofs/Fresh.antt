@@ -1,19 +1,19 @@
 -- The fresh cluster, with no call yet, is tied to the protocol's fresh state.
 -- Assumes nothing.
 use mathlib.Core.Path.{_≡_, refl, ap, _∙_}
-use mathlib.Core.List.{List, [], _++_}
+use mathlib.Core.List.{List, _++_}
 use mathlib.Core.Option.{none}
 use Prim.Native.Nat.{ℕ, zero, suc, _+_, _*_, _≤_, _<_}
 use native.Mathlib.Omega.{arith}
 use lib.Dec.{lit<}
-use lib.ListN.{length, getD, take, drop, replicate, length-append, length-replicate, getD-replicate}
+use lib.ListN.{length, getD, take, replicate, length-append, length-replicate, getD-replicate}
 use lib.Seq.{take-at, drop-append-add}
 use Rattle.octets.specs.Octets.{part}
 use Rattle.storage.specs.declared.slot.Slot.{Slot}
 use Rattle.storage.specs.Sizes.{mediumSize}
 use Rattle.storage.specs.Fresh.{freshMedium}
 use Rattle.storage.specs.Operations.{mediumAt}
-use Rattle.storage.proofs.Fresh.{Fresh, fresh-medium}
+use Rattle.storage.proofs.Fresh.{fresh-medium}
 use Rattle.quorum.specs.Vote.{quorum}
 use Rattle.protocol.specs.State as protocol
 use Rattle.cluster.specs.declared.Shape.{Shape}

@@ -1,8 +1,7 @@
 -- The theorem of condition 3.
 -- Assumes nothing.
-use mathlib.Core.Path.{_≡_}
 use mathlib.Core.Logic.{⊎-elim}
-use Prim.Native.Nat.{ℕ, _≤_, _<_}
+use Prim.Native.Nat.{_≤_, _<_}
 use native.Mathlib.Omega.{arith}
 use Rattle.quorum.specs.Vote.{quorum}
 use Rattle.protocol.specs.State as protocol
@@ -11,7 +10,7 @@ use Rattle.protocol.proofs.Fresh.{fresh-inv}
 use Rattle.protocol.proofs.Keeps.{steps-inv}
 use Rattle.protocol.proofs.Guarantee.{safe}
 use Rattle.cluster.specs.declared.Shape.{Shape}
-use Rattle.guarantee.specs.History.{beginning, along}
+use Rattle.guarantee.specs.History.{beginning}
 use Rattle.guarantee.specs.Guarantee.{InRange, Guarantee}
 use Rattle.guarantee.proofs.Fresh.{fresh-tie}
 use Rattle.guarantee.proofs.Along.{all-calls}

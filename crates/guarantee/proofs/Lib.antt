@@ -31,6 +31,8 @@ pub mod Facts
 pub mod Fresh
 pub mod Conclusions
 pub mod Played
+pub mod Opening
+pub mod Opened
 pub mod calls
 pub mod Along
 pub mod Guarantee

@@ -1,6 +1,6 @@
 -- What each call's proof is given, and what it has to show: a file of calls/ for each.
 -- Assumes nothing.
-use mathlib.Core.Path.{_≡_, refl}
+use mathlib.Core.Path.{_≡_}
 use mathlib.Core.List.{List}
 use Prim.Native.Nat.{ℕ}
 use Rattle.protocol.specs.State as protocol

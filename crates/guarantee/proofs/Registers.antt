@@ -1,14 +1,13 @@
 -- The register that an open leaves: which entries it sets, and that it is another one than before.
 -- Assumes nothing.
 use mathlib.Core.Path.{_≡_, refl, sym, ap, _∙_}
-use mathlib.Core.Bool.{Bool, true, false, not, cond, _&&_, true≢false, false≢true}
-use mathlib.Core.List.{List}
+use mathlib.Core.Bool.{Bool, true, false, not, cond, _&&_}
 use Prim.Native.Nat.{ℕ, zero, suc, _≤_, _<_}
 use native.Mathlib.Omega.{arith}
 use lib.ListN.{length}
 use lib.Dec.{eqb}
 use borrow.Author.Tests.{eqb-true, eq-eqb}
-use Rattle.base.specs.Below.{all, upTo}
+use Rattle.base.specs.Below.{all}
 use Rattle.base.proofs.Tests.{both}
 use Rattle.base.proofs.Below.{all-at, upTo-length, upTo-at}
 use Rattle.storage.specs.declared.replica.Closing.{Closing}

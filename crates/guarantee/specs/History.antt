@@ -6,14 +6,12 @@ use mathlib.Core.Bool.{Bool, true, false, not, cond, _&&_}
 use mathlib.Core.List.{List, [], _∷_}
 use mathlib.Core.Option.{Option, none, some}
 use lib.Dec.{leb}
-use Rattle.fate.specs.declared.Fate.{Fate}
 use Rattle.fate.specs.declared.Fate.the-variants.{Answered}
 use Rattle.storage.specs.Places.{validPlace}
 use Rattle.storage.specs.Log.{placeAt}
 use Rattle.storage.specs.Operations.{mediumAt}
 use Rattle.protocol.specs.Columns.{upd}
 use Rattle.cluster.specs.declared.Shape.{Shape}
-use Rattle.cluster.specs.declared.Request.{Request}
 use Rattle.cluster.specs.declared.Call.{Call}
 use Rattle.cluster.specs.declared.Call.the-variants as call
 use Rattle.cluster.specs.State.{State, serverAt, fresh}

@@ -1,7 +1,6 @@
 -- Whether a call changes the register.
 -- Assumes nothing.
 use mathlib.Core.Bool.{Bool, true, false, not, _&&_}
-use mathlib.Core.List.{List}
 use lib.Dec.{eqb}
 use Rattle.base.specs.Below.{all}
 use Rattle.storage.specs.declared.replica.Closing.{Closing}

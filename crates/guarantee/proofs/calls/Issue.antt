@@ -1,19 +1,18 @@
 -- issue: the log of the session gets one more, and the lock table enters its locks.
 -- Assumes nothing.
-use mathlib.Core.Path.{_≡_, refl, sym, ap, _∙_, subst}
+use mathlib.Core.Path.{_≡_, refl, sym, ap, _∙_}
 use mathlib.Core.Logic.{_≢_}
-use mathlib.Core.Bool.{Bool, true, false, true≢false}
-use mathlib.Core.List.{List, List·Memᴰ}
-use mathlib.Core.Option.{some}
-use Prim.Native.Nat.{ℕ, suc, _+_, _*_, _^_, _≤_, _<_}
+use mathlib.Core.Bool.{true, false, true≢false}
+use mathlib.Core.List.{List}
+use Prim.Native.Nat.{ℕ, suc, _+_, _*_, _≤_}
 use native.Mathlib.Omega.{arith}
-use lib.ListN.{length, getD, set}
+use lib.ListN.{length, set}
 use lib.Seq.{getD-set-same}
-use lib.Dec.{ltb, eqb, lit<}
+use lib.Dec.{ltb}
 use borrow.Author.Tests.{ltb-false, eqb-false}
 use Rattle.octets.proofs.Laws.{length-part}
 use Rattle.storage.specs.Sizes.{dataLimit}
-use Rattle.storage.specs.Places.{recordBytes, validPlace, Fitting}
+use Rattle.storage.specs.Places.{recordBytes, validPlace}
 use Rattle.storage.proofs.Records.{read-back}
 use Rattle.locks.specs.declared.LockTest.{LockTest}
 use Rattle.locks.specs.declared.LockTest.the-variants.{Free, Held}
@@ -35,9 +34,9 @@ use Rattle.cluster.specs.State.{State, noServer, serverAt, tableSize, tableAt, 
 use Rattle.cluster.specs.Refusals.{lockLimit, isHeld}
 use Rattle.cluster.specs.Effects.{issuedFields, issuedServer, issueEffect}
 use Rattle.guarantee.specs.History.{History, Logged, issuedAs, told}
-use Rattle.guarantee.proofs.Ties.{Row, rowOf, storyOf, loggedOf, OpenTie, Live, ServerTie, ServersTie, Told, SessionTie, SessionsTie, Sim}
+use Rattle.guarantee.proofs.Ties.{rowOf, storyOf, loggedOf, OpenTie, ServerTie, ServersTie, SessionTie, SessionsTie, Sim}
 use Rattle.guarantee.proofs.Frames.{server-frame, alone-in, table-others, table-written, session-frame}
-use Rattle.guarantee.proofs.Passing.{is-open, neither, Within, within}
+use Rattle.guarantee.proofs.Passing.{is-open, neither, within}
 use Rattle.guarantee.proofs.Sessions.{told-issued}
 use Rattle.guarantee.proofs.Facts.{open-lives}
 use Rattle.guarantee.proofs.Played.{with-call, Before, Played}

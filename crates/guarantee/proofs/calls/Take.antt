@@ -6,8 +6,7 @@ use mathlib.Core.Bool.{Bool, true, false, true≢false, false≢true}
 use mathlib.Core.List.{List}
 use Prim.Native.Nat.{ℕ, suc, _+_, _^_, _<_}
 use native.Mathlib.Omega.{arith}
-use lib.ListN.{getD, set, replicate, getD-replicate}
-use lib.Dec.{eqb}
+use lib.ListN.{getD, replicate, getD-replicate}
 use borrow.Author.Tests.{eqb-false}
 use Rattle.fate.specs.declared.Fate.{Fate}
 use Rattle.fate.specs.declared.Fate.the-variants.{Answered, Lost, AnswerLost, Cut}
@@ -25,8 +24,8 @@ use Rattle.cluster.specs.State.{State, idleServer}
 use Rattle.cluster.specs.Refusals.{sessionAtTop}
 use Rattle.cluster.specs.Effects.{withRegisterAndServer, raisedSession, openingServer, takeEffect}
 use Rattle.guarantee.specs.History.{History, withCurrent, told}
-use Rattle.guarantee.proofs.Ties.{Row, rowOf, OpeningTie, ServersTie, RegisterTie, Sim}
-use Rattle.guarantee.proofs.Frames.{Elsewhere, Alone, server-frame, idle-frame}
+use Rattle.guarantee.proofs.Ties.{rowOf, OpeningTie, RegisterTie, Sim}
+use Rattle.guarantee.proofs.Frames.{Elsewhere, server-frame, idle-frame}
 use Rattle.guarantee.proofs.Facts.{at-most-seven, next-alone}
 use Rattle.guarantee.proofs.Played.{with-call, Before, Played}
 

@@ -37,9 +37,11 @@ use Rattle.guarantee.proofs.Ties.{Sim, Goes, ReplicaTie, OpeningTie, Op
 use Rattle.guarantee.proofs.Frames.{replica-frame, session-frame}
 use Rattle.guarantee.proofs.Passing.{neither, not-idle}
 use Rattle.guarantee.proofs.Facts.{opening-lives, valid-place}
-use Rattle.guarantee.proofs.Media.{Grown}
-use Rattle.guarantee.proofs.Messages.{Message, message-of, agrees, accepts, is-answered, active-member, only-none, only-set, opening-told, opening-forgets}
-use Rattle.guarantee.proofs.Appending.{standing-after, put-kept, put-grown, append-others, append-cases, open-append}
+use Rattle.guarantee.proofs.Operations.{Grown}
+use Rattle.guarantee.proofs.Messages.{Message, message-of, agrees, accepts, is-answered, active-member}
+use Rattle.guarantee.proofs.Hearing.{only-none, only-set, opening-told, opening-forgets}
+use Rattle.guarantee.proofs.Standing.{standing-after, put-kept, put-grown, append-others, append-cases}
+use Rattle.guarantee.proofs.Appending.{open-append}
 use Rattle.guarantee.proofs.Played.{with-call, Before, Played}
 
 -- a session that is not opened acknowledges nothing

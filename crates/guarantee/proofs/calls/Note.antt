@@ -21,8 +21,9 @@ use Rattle.guarantee.specs.History.{History, told}
 use Rattle.guarantee.proofs.Ties.{Sim, ReplicaTie, copyOf}
 use Rattle.guarantee.proofs.Frames.{replica-frame}
 use Rattle.guarantee.proofs.Passing.{is-open}
-use Rattle.guarantee.proofs.Media.{noted-mark, noted-tie}
-use Rattle.guarantee.proofs.Messages.{Message, message-of, agrees, accepts, open-kept}
+use Rattle.guarantee.proofs.Operations.{noted-mark, noted-tie}
+use Rattle.guarantee.proofs.Messages.{Message, message-of, agrees, accepts}
+use Rattle.guarantee.proofs.Hearing.{open-kept}
 use Rattle.guarantee.proofs.Played.{with-call, Before, Played}
 
 module _ (h : Shape) (x : State) (H : History) (σ : protocol.State) (content locks given : List ℕ) (reader s i : ℕ) (f : Fate)

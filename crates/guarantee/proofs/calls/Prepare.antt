@@ -29,8 +29,9 @@ use Rattle.guarantee.specs.History.{History, told}
 use Rattle.guarantee.proofs.Ties.{Sim, Goes, ReplicaTie, ReplicasTie, OpeningTie, isUnresolved, copyOf, rowOf}
 use Rattle.guarantee.proofs.Frames.{replica-frame}
 use Rattle.guarantee.proofs.Passing.{neither, is-opening}
-use Rattle.guarantee.proofs.Media.{closed-le, prepared-tie, answered-tie}
-use Rattle.guarantee.proofs.Messages.{Message, message-of, accepts-prepare, is-answered, only-none, only-set, only-then, opening-told, opening-forgets, opening-silent}
+use Rattle.guarantee.proofs.Operations.{closed-le, prepared-tie, answered-tie}
+use Rattle.guarantee.proofs.Messages.{Message, message-of, accepts-prepare, is-answered}
+use Rattle.guarantee.proofs.Hearing.{only-none, only-set, only-then, opening-told, opening-forgets, opening-silent}
 use Rattle.guarantee.proofs.Played.{with-call, Before, Played}
 
 -- an unresolved replica keeps its log, and another keeps no more than its closing mark

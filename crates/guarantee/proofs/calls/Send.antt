@@ -21,7 +21,8 @@ use Rattle.guarantee.proofs.Ties.{Sim, ReplicaTie, OpenTie, copyOf, row
 use Rattle.guarantee.proofs.Passing.{is-open}
 use Rattle.guarantee.proofs.Sessions.{log-issued}
 use Rattle.guarantee.proofs.Facts.{open-lives}
-use Rattle.guarantee.proofs.Messages.{Message, message-of, agrees, accepts, of-member}
+use Rattle.guarantee.proofs.Messages.{Message, message-of, agrees, accepts}
+use Rattle.guarantee.proofs.Hearing.{of-member}
 use Rattle.guarantee.proofs.Appending.{Appendable, open-append}
 use Rattle.guarantee.proofs.Played.{with-call, Before, Played}
 

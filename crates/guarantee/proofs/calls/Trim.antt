@@ -27,8 +27,9 @@ use Rattle.guarantee.proofs.Ties.{Sim, Goes, ReplicaTie, ReplicasTie, O
 use Rattle.guarantee.proofs.Frames.{replica-frame}
 use Rattle.guarantee.proofs.Passing.{is-opening}
 use Rattle.guarantee.proofs.Counts.{decided-tie}
-use Rattle.guarantee.proofs.Media.{trimmed, trimmed-tie}
-use Rattle.guarantee.proofs.Messages.{Message, message-of, agrees, accepts, only-none, only-set, opening-told, opening-forgets, opening-silent}
+use Rattle.guarantee.proofs.Operations.{trimmed, trimmed-tie}
+use Rattle.guarantee.proofs.Messages.{Message, message-of, agrees, accepts}
+use Rattle.guarantee.proofs.Hearing.{only-none, only-set, opening-told, opening-forgets, opening-silent}
 use Rattle.guarantee.proofs.Played.{with-call, Before, Played}
 
 module _ (h : Shape) (x : State) (H : History) (σ : protocol.State) (content locks given : List ℕ) (reader s i : ℕ) (f : Fate)

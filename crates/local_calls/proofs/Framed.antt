@@ -77,7 +77,7 @@ module _ (h : Shape) (x : State) where
       (s : ℕ) (q : Request) (content locks : List ℕ)
       → firstOf (ownRows h x (issueInput s q content locks) (call.Issue s q))
       ≡ firstOf (frontRows h x s false onlyOpen ++ requestRows limitsOf (h .places) (serverAt (x .records) s) q (length content) (tableAt s (x .tables)) locks)
-  unfolding firstOf
+  unfolding firstOf requestRows
   issue-own s q content locks = rw (allows-open (serverAt (x .records) s .phase))
 
 -- ---- a call behind refusals 1 to 5: k is what they gave, us the rest of the call's list

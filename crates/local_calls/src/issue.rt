@@ -175,10 +175,10 @@ fn checked(
         &tables[at..end],
         locks,
     );
-    match k {
-        Check::Refuse(why) => admit::declined(records, why),
-        Check::Pass => grant(records, tables, i, request, content, locks),
+    if let Check::Refuse(why) = k {
+        return admit::declined(records, why);
     }
+    grant(records, tables, i, request, content, locks)
 }
 
 // Refusals 1, 2, 3, 5 and 10 to 15.

@@ -56,6 +56,7 @@ fn acknowledged(v: Server, r: usize) -> Server
     next
 }
 
+// Only an open server has a mark acknowledged.
 fn counted_if_open(v: Server, p: Phase, r: usize) -> Server
     requires { ⌜ r ≤ 7 ⌝ }
     ensures { λ w. ⌜ w ≡ counted r p v ⌝ }
@@ -67,6 +68,7 @@ fn counted_if_open(v: Server, p: Phase, r: usize) -> Server
     }
 }
 
+// What is answered: the acknowledged mark if open, else the replica's.
 fn if_open(p: Phase, acked: u64, mark: u64) -> u64
     ensures { λ n. ⌜ n ≡ cond (isOpen p) acked mark ⌝ }
 {
@@ -170,6 +172,7 @@ fn send_checked(
     }
 }
 
+// send i (open): the issued record is written in the place behind i's mark; the acknowledged mark is answered.
 pub fn send(
     shape: Shape,
     records: Records,
@@ -297,6 +300,8 @@ fn copy_checked(
     }
 }
 
+// copy a, b (opening or open): a's place behind b's mark is written in b as it is; the acknowledged mark is answered if open, else b's
+// mark.
 pub fn copy(
     shape: Shape,
     records: Records,

@@ -2,14 +2,14 @@
 -- Assumes nothing.
 use mathlib.Core.Path.{_≡_, refl, sym, ap, _∙_}
 use mathlib.Core.Bool.{Bool, true, false, not, _&&_}
-use mathlib.Core.List.{List, [], _∷_}
+use mathlib.Core.List.{List}
 use Prim.Native.Nat.{ℕ, _+_, _*_, _≤_, _<_}
 use native.Mathlib.Nat.{mul-le-mul}
 use native.Mathlib.Omega.{arith}
 use lib.ListN.{length, take, drop, take-append-drop}
 use lib.Seq.{drop-drop}
-use lib.Dec.{ltb, leb}
-use borrow.Author.Tests.{ltb-false, leb-true, lt-ltb, not-false}
+use lib.Dec.{leb}
+use borrow.Author.Tests.{ltb-false, leb-true, not-false}
 use Rattle.base.specs.Below.{all}
 use Rattle.base.proofs.Below.{all-at}
 use Rattle.base.proofs.Tests.{both}
@@ -22,16 +22,17 @@ use Rattle.cluster.specs.declared.Server.{Server}
 use Rattle.cluster.specs.declared.Refusal.{Refusal}
 use Rattle.cluster.specs.declared.Outcome.{Outcome}
 use Rattle.cluster.specs.State.{State, serverAt, markAt}
-use Rattle.cluster.specs.Refusals.{Input, outside, entriesFit, serverFits, markAbove, serverOf, badReplica, isIdle, isOpening, isOpen, wrongPhase, Row, row, rows, firstOf, andThen}
+use Rattle.cluster.specs.Refusals.{Input, entriesFit, serverFits, markAbove, serverOf, badReplica, isIdle, isOpening, isOpen, wrongPhase, Row, rows, firstOf, andThen}
 use Rattle.cluster.specs.Effects.{Result}
 use Rattle.cluster.specs.Step.{unless, step}
 use Rattle.cluster.proofs.Rows.{firstOf-append, Passed, passed}
 use Rattle.admit.specs.declared.Check.{Check}
 use Rattle.admit.specs.declared.Check.the-variants.{Pass, Refuse}
 use Rattle.admit.specs.declared.Phases.{Phases}
-use Rattle.admit.specs.Checks.{verdictOf, replicasFit, outsideSizes, phaseAt, allows}
+use Rattle.admit.specs.Checks.{verdictOf, allows}
 use Rattle.admit.specs.Results.{stateOf, resultOf, declinedOf}
 use Rattle.admit.proofs.Sizes.{within}
+use Rattle.admit.proofs.Outer.{admitRows, admitted}
 use Rattle.hearing.specs.Stages.{unlessAbove, beyond, Named}
 
 -- the tests of numbers n + 1 to n + m, then the others
@@ -70,38 +71,19 @@ module _ (h : Shape) (r : Records) (media tables : List ℕ) (p : Input) (e : Re
 
 -- ---- refusals 1 to 5
 
--- as `admit_call` tests them
-abbrev pub firstFive : Shape → Records → ℕ → ℕ → ℕ → Bool → Phases → List Row
-firstFive h r media tables s unnamed phases =
-    row 1 (outsideSizes h media tables)
-    ∷ row 2 (markAbove h r)
-    ∷ row 3 (ltb 3 s)
-    ∷ row 4 unnamed
-    ∷ row 5 (not (allows (phaseAt r s) phases))
-    ∷ []
-
-phase-is : (r : Records) (s : ℕ) → s < 4 → phaseAt r s ≡ serverAt r s .phase
-unfolding phaseAt
-phase-is r s l = rw (lt-ltb s 4 l)
-
 pub first-five :
     (h : Shape) (r : Records) (media tables : List ℕ) (p : Input) (phases : Phases)
     → ((q : Phase) → not (allows q phases) ≡ wrongPhase q (p .call))
-    → firstOf (firstFive h r (length media) (length tables) (serverOf (p .call)) (badReplica (h .replicas) (p .call)) phases)
+    → firstOf (admitRows h r (length media) (length tables) (serverOf (p .call)) (badReplica (h .replicas) (p .call)) phases)
     ≡ firstOf (take 5 (rows h (stateOf r media tables) p))
-unfolding rows outside outsideSizes replicasFit firstOf
-first-five h r media tables p phases f = go (ltb 3 (serverOf (p .call))) refl
-  where
-    go : (b : Bool) → ltb 3 (serverOf (p .call)) ≡ b
-        → firstOf (firstFive h r (length media) (length tables) (serverOf (p .call)) (badReplica (h .replicas) (p .call)) phases)
-        ≡ firstOf (take 5 (rows h (stateOf r media tables) p))
-    go true q = rw q
-    go false q = rw (q, phase-is r (serverOf (p .call)) (omega (arith, ltb-false 3 (serverOf (p .call)) q)), f (serverAt r (serverOf (p .call)) .phase))
+unfolding rows
+first-five h r media tables p phases f =
+    rw (admitted h r media tables (serverOf (p .call)) (badReplica (h .replicas) (p .call)) phases, f (serverAt r (serverOf (p .call)) .phase))
 
 -- a call from its first test on
 module _ (h : Shape) (r : Records) (media tables : List ℕ) (p : Input) {k : Check} {phases : Phases}
     (f : (q : Phase) → not (allows q phases) ≡ wrongPhase q (p .call))
-    (v : verdictOf k ≡ firstOf (firstFive h r (length media) (length tables) (serverOf (p .call)) (badReplica (h .replicas) (p .call)) phases))
+    (v : verdictOf k ≡ firstOf (admitRows h r (length media) (length tables) (serverOf (p .call)) (badReplica (h .replicas) (p .call)) phases))
   where
     pub refused-first : {why : Refusal} {o : Outcome} → k ≡ Refuse why → o ≡ declinedOf r why → resultOf o media tables ≡ step h (stateOf r media tables) p
     unfolding step unlessAbove
@@ -151,10 +133,10 @@ medium-within i r n l = let q : (i + 1) * n ≤ r * n = mul-le-mul {n₂ = r} {m
 
 pub named :
     (h : Shape) (r : Records) (media tables s i : ℕ) (unnamed : Bool) (phases : Phases) {k : Check}
-    → verdictOf k ≡ firstOf (firstFive h r media tables s unnamed phases) → k ≡ Pass → (unnamed ≡ false → i < h .replicas)
+    → verdictOf k ≡ firstOf (admitRows h r media tables s unnamed phases) → k ≡ Pass → (unnamed ≡ false → i < h .replicas)
     → Named h r media s i
 named h r media tables s i unnamed phases v q b =
-    let p = passes (firstFive h r media tables s unnamed phases) v q in
+    let p = passes (admitRows h r media tables s unnamed phases) v q in
     let w = within h media tables (p .0) in
     let j = b (p .1 .1 .1 .0) in
     let l : s < 4 = omega (arith, ltb-false 3 s (p .1 .1 .0)) in

@@ -1,6 +1,6 @@
 -- What lies beside a call that does not read it changes nothing: data and locks are issue's, given bytes a replica message's.
 -- Assumes nothing.
-use mathlib.Core.Path.{_≡_, refl, sym, ap₂, _∙_}
+use mathlib.Core.Path.{_≡_, refl, sym, ap, ap₂, _∙_}
 use mathlib.Core.List.{List, []}
 use Prim.Native.Nat.{ℕ}
 use Rattle.cluster.specs.declared.Shape.{Shape}
@@ -49,3 +49,7 @@ module _ (content locks given : List ℕ) where
   same h x (call.Read s i n f) = agree h x (bare (call.Read s i n f)) (beside (call.Read s i n f)) refl refl
   same h x (call.Stop s) = agree h x (bare (call.Stop s)) (beside (call.Stop s)) refl refl
   same h x call.Reassign = agree h x (bare call.Reassign) (beside call.Reassign) refl refl
+
+  -- one arm of `apply`: the call that was matched, and what its own contract says
+  pub applied : (h : Shape) (x : State) (c c′ : Call) (r : Result) → c′ ≡ c → r ≡ step h x (bare c) → r ≡ step h x (beside c′)
+  applied h x c c′ r e q = q ∙ same h x c ∙ ap (λ (d : Call). step h x (beside d)) (sym e)

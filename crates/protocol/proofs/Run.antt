@@ -24,10 +24,10 @@ granted σ s x p e = record {
 
 -- the two records
 abbrev pub x : Tx
-x = record { bytes = 171 ∷ []; locks = []; client-mark = 0 }
+x = record { issue = 0; bytes = 171 ∷ []; locks = []; client-mark = 0 }
 
 abbrev y : Tx
-y = record { bytes = 205 ∷ []; locks = []; client-mark = 1 }
+y = record { issue = 1; bytes = 205 ∷ []; locks = []; client-mark = 1 }
 
 -- cluster 3 4; take 0; prep 0 0; prep 0 1; open 0 → ok 0
 take₁ : State

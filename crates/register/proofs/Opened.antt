@@ -14,7 +14,6 @@ use Rattle.base.proofs.Same.{count-same}
 use Rattle.quorum.specs.declared.Vote.{Vote}
 use Rattle.quorum.specs.declared.Vote.the-variants.{Undecided, Decided}
 use Rattle.quorum.specs.Vote.{flagsOf, quorum, majorityMark, decided, voteOf}
-use Rattle.quorum.proofs.Same.{vote-same}
 use Rattle.fate.specs.declared.Fate.{Fate}
 use Rattle.fate.specs.declared.Fate.the-variants.{Answered, Lost, AnswerLost, Cut}
 use Rattle.fate.specs.declared.Left.{Left}
@@ -30,12 +29,6 @@ use Rattle.admit.specs.Results.{stateOf, resultOf, declinedOf, silentOf, valueO
 use Rattle.register.specs.Opening.{cleanBy, registerBy, openedBy, openRows, openBy}
 
 -- ---- the vote
-
-pub vote-is : (v : Server) (r : ℕ) (flags : List Bool) → r ≤ 7 → flags ≡ upTo (activeAt v) (replicate 7 false) 7
-    → voteOf (flagsOf flags) (markAt v) r ≡ voteOf (activeAt v) (markAt v) r
-vote-is v r flags h e =
-    vote-same r (flagsOf flags) (activeAt v) (markAt v)
-    (λ i l. ap (λ (f : List Bool). getD f i false) e ∙ upTo-at (activeAt v) (replicate 7 false) 7 i false (omega arith) (omega (arith, length-replicate {A = Bool} 7 false)))
 
 undecided-is : (b : Bool) (m : ℕ) → cond b (Decided m) Undecided ≡ Undecided → b ≡ false
 undecided-is true m e = let z : _≡_ {A = ℕ} 0 1 = cc in absurd (omega arith)

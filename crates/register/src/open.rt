@@ -5,9 +5,8 @@ ghost use mathlib.Core.List.{List, [], _∷_};
 ghost use Prim.Native.Nat.{ℕ, _<_, _≤_};
 ghost use lib.ListN.{length, replicate};
 ghost use Rattle.base.specs.Below.{upTo};
-ghost use Rattle.quorum.specs.Vote.{voteOf};
 ghost use Rattle.cluster.specs.declared.Call.the-variants as call;
-ghost use Rattle.cluster.specs.State.{serverAt, entryAt, markAt, activeAt};
+ghost use Rattle.cluster.specs.State.{serverAt, entryAt};
 ghost use Rattle.cluster.specs.Refusals.{answered, sessionDiffers, row, firstOf};
 ghost use Rattle.cluster.specs.Effects.{entryAfter, openEffect};
 ghost use Rattle.cluster.specs.Step.{unless, step};
@@ -26,26 +25,10 @@ use cluster::Register;
 use cluster::Server;
 use cluster::Shape;
 use fate::Fate;
+use hearing::is_active;
+use hearing::vote_among;
 use quorum::Vote;
 use storage::replica::Closing;
-
-// Whether a replica is known and not dropped.
-fn is_active(v: Server, i: usize) -> bool
-    requires { ⌜ i < 7 ⌝ }
-    ensures { λ b. ⌜ b ≡ activeAt v i ⌝ }
-{
-    if v.known[i] { !v.dropped[i] } else { false }
-}
-
-fn active_flags(v: Server) -> [bool; 7]
-    ensures { λ f. ⌜ f ≡ upTo (activeAt v) (replicate 7 false) 7 ⌝ }
-{
-    let mut out = [false; 7];
-    for i in 0..7 {
-        out[i] = is_active(v, i);
-    }
-    out
-}
 
 // Whether a replica is clean: known, and exactly at the mark.
 fn is_clean(v: Server, i: usize, d: u64) -> bool
@@ -191,23 +174,13 @@ fn open_step(
     }
 }
 
-// The vote of a server's known replicas.
-pub fn vote(v: Server, r: usize) -> Vote
-    requires { ⌜ r ≤ 7 ⌝ }
-    ensures { λ w. ⌜ w ≡ voteOf (activeAt v) (markAt v) r ⌝ }
-{
-    let known = active_flags(v);
-    let marks = v.marks;
-    quorum::vote_of(known, marks, r)
-}
-
 // 8 and 9, then the message.
 fn open_voted(records: Records, tables: &mut [u64], i: usize, r: usize, fate: Fate) -> Outcome
     requires { ⌜ Ready i r (length (now tables)) ⌝ }
     ensures { λ o. ⌜ ((media : List ℕ) → resultOf o media (now (tables .exit)) ≡ unless (firstOf (openRows r records i fate)) (stateOf records media (now (tables .entry))) (openEffect r (stateOf records media (now (tables .entry))) i fate)) ⌝ }
 {
     let v = records.servers[i];
-    let Vote::Decided(d) = vote(v, r) else {
+    let Vote::Decided(d) = vote_among(v, r) else {
         return admit::declined(records, Refusal::Undecided);
     };
     let clean = clean_flags(v, d, r);

@@ -1,0 +1,101 @@
+-- Along a list of calls: each is declined and changes nothing, or is a list of events. So every list of calls is one.
+-- Assumes nothing.
+use mathlib.Core.Path.{_≡_, refl}
+use mathlib.Core.Bool.{Bool, true, false, cond}
+use mathlib.Core.List.{List, [], _∷_}
+use Prim.Native.Nat.{ℕ}
+use Rattle.protocol.specs.State as protocol
+use Rattle.protocol.specs.Events.{Steps, _▸▸_}
+use Rattle.protocol.proofs.Invariant.{Inv}
+use Rattle.protocol.proofs.Keeps.{steps-inv}
+use Rattle.cluster.specs.declared.Shape.{Shape}
+use Rattle.cluster.specs.declared.Call.{Call}
+use Rattle.cluster.specs.declared.Call.the-variants as call
+use Rattle.cluster.specs.State.{State}
+use Rattle.cluster.specs.Refusals.{Input, rows, Verdict, pass, declined, firstOf}
+use Rattle.cluster.specs.Replies.{ok, silent}
+use Rattle.cluster.specs.Step.{effect, unless, step}
+use Rattle.cluster.proofs.Declines.{isAnswered, declines}
+use Rattle.guarantee.specs.History.{Element, History, told, heard, counted, Moment, next, along}
+use Rattle.guarantee.specs.Guarantee.{InRange, Admitted, AdmittedAll}
+use Rattle.guarantee.proofs.Ties.{Sim, Goes}
+use Rattle.guarantee.proofs.Passing.{passed}
+use Rattle.guarantee.proofs.Played.{with-call, Before, Played, step-passes}
+use Rattle.guarantee.proofs.calls.Prepare.{prepare-played}
+use Rattle.guarantee.proofs.calls.Copy.{copy-played}
+use Rattle.guarantee.proofs.calls.Trim.{trim-played}
+use Rattle.guarantee.proofs.calls.Send.{send-played}
+use Rattle.guarantee.proofs.calls.Note.{note-played}
+use Rattle.guarantee.proofs.calls.Read.{read-played}
+use Rattle.guarantee.proofs.calls.Stop.{stop-played}
+use Rattle.guarantee.proofs.calls.Reassign.{reassign-played}
+use Rattle.guarantee.proofs.calls.Take.{take-played}
+use Rattle.guarantee.proofs.calls.Issue.{issue-played}
+use Rattle.guarantee.proofs.calls.Open.{open-played}
+
+-- ================ one call
+
+module _ (h : Shape) (x : State) (H : History) (σ : protocol.State) (content locks given : List ℕ) (reader : ℕ) where
+  played : (c : Call) → Before h x H σ (with-call c content locks given reader) → Played h x H σ (with-call c content locks given reader)
+  played (call.Take s f) B = take-played h x H σ content locks given reader s f B
+  played (call.Prepare s i f) B = prepare-played h x H σ content locks given reader s i f B
+  played (call.Copy s a b f) B = copy-played h x H σ content locks given reader s a b f B
+  played (call.Trim s i f) B = trim-played h x H σ content locks given reader s i f B
+  played (call.Open s f) B = open-played h x H σ content locks given reader s f B
+  played (call.Issue s q) B = issue-played h x H σ content locks given reader s q B
+  played (call.Send s i f) B = send-played h x H σ content locks given reader s i f B
+  played (call.Note s i f) B = note-played h x H σ content locks given reader s i f B
+  played (call.Read s i n f) B = read-played h x H σ content locks given reader s i n f B
+  played (call.Stop s) B = stop-played h x H σ content locks given reader s B
+  played call.Reassign B = reassign-played h x H σ content locks given reader B
+
+-- no effect is replied to with a refusal: the history hears of it
+heard-effect : (h : Shape) (x : State) (p : Input) (H K : History) → heard (effect h x p (p .call) .reply) H K ≡ K
+unfolding heard
+heard-effect h x p H K = let r = declines h x p .replies in rw (r .1) (go (isAnswered (p .call)) (r .0))
+  where
+    go : (b : Bool) (values : List ℕ) → heard (cond b (ok values) silent) H K ≡ K
+    go true values = refl
+    go false values = refl
+
+-- the count of the calls is tied to nothing
+counted-tie : (h : Shape) (x : State) (H : History) (σ : protocol.State) → Sim h x H σ → Sim h x (counted H) σ
+counted-tie h x H σ S =
+    record { R = S .R; Q = S .Q; register = S .register; replicas = S .replicas; servers = S .servers; sessions = S .sessions }
+
+module _ (h : Shape) (m : Moment) (e : Element) where
+  next-declined : (n : ℕ) (values : List ℕ) → firstOf (rows h (m .state) (e .input)) ≡ declined n values
+      → next h m e ≡ record { state = m .state; history = counted (m .history) }
+  unfolding next step unless heard
+  next-declined n values q = rw q
+
+  next-passed : firstOf (rows h (m .state) (e .input)) ≡ pass
+      → let r = effect h (m .state) (e .input) (e .input .call) in
+      next h m e ≡ record { state = r .state; history = counted (told h (m .state) e r (m .history) (e .input .call)) }
+  unfolding next
+  next-passed q =
+      rw (step-passes h (m .state) (e .input) q, heard-effect h (m .state) (e .input) (m .history) (told h (m .state) e (effect h (m .state) (e .input) (e .input .call)) (m .history) (e .input .call)))
+
+  one-call : InRange h → (σ : protocol.State) → Sim h (m .state) (m .history) σ → Inv σ → Admitted h m e
+      → Goes h σ (next h m e .state) (next h m e .history)
+  one-call range σ S I a = go (firstOf (rows h (m .state) (e .input))) refl
+    where
+      go : (d : Verdict) → firstOf (rows h (m .state) (e .input)) ≡ d → Goes h σ (next h m e .state) (next h m e .history)
+      go (declined n values) q =
+          rw (next-declined n values q) (σ, Steps.none, counted-tie h (m .state) (m .history) σ S)
+      go pass q =
+          let p = e .input in
+          let w = played h (m .state) (m .history) σ (p .content) (p .locks) (p .given) (e .reader) (p .call)
+          (record { range = range; sim = S; inv = I; passes = q; passed = passed h (m .state) p q; admitted = a }) in
+          rw (next-passed q) (w .0, w .1, counted-tie h _ _ (w .0) (w .2))
+
+-- ================ a list of calls
+
+pub all-calls : (h : Shape) → InRange h → (es : List Element) (m : Moment) (ρ σ : protocol.State) → Steps ρ σ → Inv ρ
+    → Sim h (m .state) (m .history) σ → AdmittedAll h m es
+    → (τ : protocol.State) × Steps ρ τ × Sim h (along h m es .state) (along h m es .history) τ
+unfolding along
+all-calls h range [] m ρ σ r I S a = (σ, r, S)
+all-calls h range (e ∷ es) m ρ σ r I S a =
+    let w = one-call h m e range σ S (steps-inv r I) (a .0) in
+    all-calls h range es (next h m e) ρ (w .0) (r ▸▸ w .1) I (w .2) (a .1)

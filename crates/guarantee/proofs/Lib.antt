@@ -1,0 +1,51 @@
+-- THE PROOF OF THE GUARANTEE for every list of calls, by the protocol without bytes (crate protocol). The statement is specs/Guarantee.antt.
+--
+-- A state of the cluster with the history of its calls is tied to a state of the protocol (Ties). Each call that is not declined is a short list of
+-- the protocol's events, whatever its fate, and the tie holds again after it (calls/, a file for each). So the protocol's guarantee is the cluster's.
+--
+--   Guarantee   the theorem
+--   Along       a call is declined or a list of events; so a list of calls is a list of events
+--   Conclusions the protocol's guarantee, read through the tie
+--   Fresh       the fresh cluster's tie
+--   Ties        the tie, in records over the values that it ties: replicas, servers, register, sessions; Sim is all of it
+--   Frames      a call that touches one replica, one server or one session leaves only that one's tie to show
+--   Played      what each call's proof is given and has to show
+--   calls/      the calls, one file each; Stop is the shortest
+--
+-- What the calls' proofs use:
+--   Passing     a call that is not declined, and what each condition of the list says when it does not hold
+--   Facts       what several calls read off the tie and the invariant
+--   Counts      the counts of the two agree: decided, acknowledged
+--   Blocks      media and lock tables in their slices
+--   Media       a medium whose log stayed, became shorter or got a record; Operations: after each storage operation, under each fate
+--   Messages    a message to a replica that is not declined; Records: the server's record after it; Hearing: a server that hears or forgets
+--   Standing    send and copy: whose records then stand there; Appending: what an open server acknowledges after one
+--   Sessions    a session after an issue, and after what it acknowledges
+--   Registers   the register that an open leaves; Opening: what an open finds; Opened: what it leaves
+--
+-- Beside the theorem: Example, a list worked out.
+-- Assumes nothing.
+pub mod Ties
+pub mod Blocks
+pub mod Frames
+pub mod Passing
+pub mod Counts
+pub mod Media
+pub mod Operations
+pub mod Messages
+pub mod Records
+pub mod Hearing
+pub mod Standing
+pub mod Appending
+pub mod Sessions
+pub mod Registers
+pub mod Facts
+pub mod Fresh
+pub mod Conclusions
+pub mod Played
+pub mod Opening
+pub mod Opened
+pub mod calls
+pub mod Along
+pub mod Guarantee
+pub mod Example

@@ -1,0 +1,233 @@
+-- issue: the log of the session gets one more, and the lock table enters its locks.
+-- Assumes nothing.
+use mathlib.Core.Path.{_≡_, refl, sym, ap, _∙_}
+use mathlib.Core.Logic.{_≢_}
+use mathlib.Core.Bool.{true, false, true≢false}
+use mathlib.Core.List.{List}
+use Prim.Native.Nat.{ℕ, suc, _+_, _*_, _≤_}
+use native.Mathlib.Omega.{arith}
+use lib.ListN.{length, set}
+use lib.Seq.{getD-set-same}
+use lib.Dec.{ltb}
+use borrow.Author.Tests.{ltb-false, eqb-false}
+use Rattle.octets.proofs.Laws.{length-part}
+use Rattle.storage.specs.Sizes.{dataLimit}
+use Rattle.storage.specs.Places.{recordBytes, validPlace}
+use Rattle.storage.proofs.Records.{read-back}
+use Rattle.locks.specs.declared.LockTest.{LockTest}
+use Rattle.locks.specs.declared.LockTest.the-variants.{Free, Held}
+use Rattle.locks.specs.Locks.{estimateOf, markedAll, firstHeld}
+use Rattle.locks.proofs.Laws.{length-marked-all}
+use Rattle.locks.proofs.NoFalseNegatives.{rises, tops, enters, granted-above}
+use Rattle.protocol.specs.State as protocol
+use Rattle.protocol.specs.State.{Tx}
+use Rattle.protocol.specs.Columns.{upd}
+use Rattle.protocol.specs.Events.{Can-issue, after-issue}
+use Rattle.protocol.proofs.Columns.{upd-same, upd-other}
+use Rattle.protocol.proofs.Traces.{issue-answered}
+use Rattle.cluster.specs.declared.Shape.{Shape}
+use Rattle.cluster.specs.declared.Phase.the-variants.{Open}
+use Rattle.cluster.specs.declared.Server.{Server}
+use Rattle.cluster.specs.declared.Request.{Request}
+use Rattle.cluster.specs.declared.Call.the-variants as call
+use Rattle.cluster.specs.State.{State, noServer, serverAt, tableSize, tableAt, withTable}
+use Rattle.cluster.specs.Refusals.{lockLimit, isHeld}
+use Rattle.cluster.specs.Effects.{issuedFields, issuedServer, issueEffect}
+use Rattle.guarantee.specs.History.{History, Logged, issuedAs, told}
+use Rattle.guarantee.proofs.Ties.{rowOf, storyOf, loggedOf, OpenTie, ServerTie, ServersTie, SessionTie, SessionsTie, Sim}
+use Rattle.guarantee.proofs.Frames.{server-frame, alone-in, table-others, table-written, session-frame}
+use Rattle.guarantee.proofs.Passing.{is-open, neither, within}
+use Rattle.guarantee.proofs.Sessions.{told-issued}
+use Rattle.guarantee.proofs.Facts.{open-lives}
+use Rattle.guarantee.proofs.Played.{with-call, Before, Played}
+
+-- no lock refuses
+free : (t : LockTest) → isHeld t ≡ false → t ≡ Free
+free Free e = refl
+free (Held k m) e = absurd (true≢false e)
+
+module _ (h : Shape) (x : State) (H : History) (σ : protocol.State) (content locks given : List ℕ) (reader s : ℕ) (q : Request)
+    (B : Before h x H σ (with-call (call.Issue s q) content locks given reader)) where
+  S : Sim h x H σ
+  S = B .sim
+
+  abbrev v : Server
+  v = serverAt (x .records) s
+
+  abbrev z : ℕ
+  z = v .session
+
+  abbrev table : List ℕ
+  table = tableAt s (x .tables)
+
+  serves : v .phase ≡ Open
+  serves = is-open (v .phase) (B .passed .phase)
+
+  tie : ServerTie (h .replicas) v table (H .current s) (rowOf σ)
+  tie = S .servers .each s (B .passed .server)
+
+  row : OpenTie (h .replicas) v table (rowOf σ z)
+  row = tie .serving serves
+
+  open-z : σ .opened z ≡ true
+  open-z = B .inv .numbers .live z (row .phase)
+
+  -- the next ID
+  abbrev n : ℕ
+  n = v .issued + 1
+
+  next : n ≡ suc (σ .issued z)
+  next = omega (arith, row .issued)
+
+  -- the transaction, and the estimates after it
+  abbrev tx : Tx
+  tx = record { issue = H .calls; bytes = recordBytes (issuedFields n q) content; locks = locks; client-mark = q .mark }
+
+  abbrev table′ : List ℕ
+  table′ = markedAll table locks n
+
+  abbrev τ : protocol.State
+  τ = after-issue σ z tx (estimateOf table′)
+
+  below : (k : ℕ) → estimateOf table k ≤ n
+  below k = omega (arith, row .estimate k, row .entered k, row .issued)
+
+  size : length table ≡ tableSize
+  size = length-part (s * tableSize) tableSize (x .tables) (omega (arith, S .servers .tables-size, B .passed .server))
+
+  can : Can-issue σ z tx (estimateOf table′)
+  can =
+      record {
+        phase = row .phase;
+        free = λ k m. omega (arith, row .estimate k, granted-above table locks (q .mark) k (free (firstHeld table locks (q .mark)) (B .passed .locks)) m);
+        rises = λ k. omega (arith, row .estimate k, rises table locks n k (below k));
+        enters = λ k m. omega (arith, next, enters table locks n k size m);
+      }
+
+  room : n ≤ h .places
+  room =
+      omega (arith, within h x s (B .passed .marks) (B .passed .server) .issued, eqb-false (v .issued) (h .places) (B .passed .full))
+
+  valid : validPlace n (tx .bytes) ≡ true
+  valid =
+      let r = B .admitted .fits .request s q refl in
+      read-back (issuedFields n q) content
+      (record {
+        id = omega (arith, room, B .range .most);
+        client = r .client;
+        generation = r .generation;
+        partition = r .partition;
+        sequence = r .sequence;
+        header = r .header;
+      })
+      (ltb-false dataLimit (length content) (neither (ltb dataLimit (length content)) (ltb lockLimit (length locks)) (B .passed .size) .0))
+      (B .admitted .fits .content) .valid
+
+  -- ---- the rows
+
+  rows : (u : ℕ) → z ≢ u → rowOf τ u ≡ rowOf σ u
+  rows u d =
+      rw (
+        upd-other (σ .issued) z (suc (σ .issued z)) u d,
+        upd-other (σ .log) z (upd (σ .log z) (suc (σ .issued z)) tx) u d,
+        upd-other (σ .estimate) z (estimateOf table′) u d,
+      )
+
+  issued-z : τ .issued z ≡ suc (σ .issued z)
+  issued-z = upd-same (σ .issued) z (suc (σ .issued z))
+
+  log-z : τ .log z ≡ upd (σ .log z) (suc (σ .issued z)) tx
+  log-z = upd-same (σ .log) z (upd (σ .log z) (suc (σ .issued z)) tx)
+
+  estimate-z : τ .estimate z ≡ estimateOf table′
+  estimate-z = upd-same (σ .estimate) z (estimateOf table′)
+
+  abbrev w : Server
+  w = issuedServer v q content
+
+  last : upd (σ .log z) (suc (σ .issued z)) tx (suc (σ .issued z)) ≡ tx
+  last = upd-same (σ .log z) (suc (σ .issued z)) tx
+
+  serving : OpenTie (h .replicas) w table′ (rowOf τ z)
+  serving =
+      rw (issued-z, log-z, estimate-z)
+      (record {
+        phase = row .phase;
+        member = row .member;
+        recorded = row .recorded;
+        start = row .start;
+        issued = next;
+        held = λ l. sym (ap (λ (t : Tx). t .bytes) last);
+        written = λ l. rw (← next) valid;
+        estimate = λ k. refl;
+        entered = λ k. omega (arith, next, tops table locks n k (below k));
+      })
+
+  abbrev tables′ : List ℕ
+  tables′ = withTable s table′ (x .tables)
+
+  written-table : (tableAt s tables′ ≡ table′) × (length tables′ ≡ 4 * tableSize)
+  written-table =
+      table-written (x .tables) table′ (S .servers .tables-size) (length-marked-all table locks n ∙ size) s (B .passed .server)
+
+  servers : ServersTie (h .replicas) (set (x .records .servers) s w) tables′ (H .current) (rowOf τ)
+  servers =
+      let awake = open-lives v serves in
+      let alone = alone-in _ _ _ _ _ (S .servers) s (B .passed .server) awake in
+      server-frame _ _ _ _ _ (S .servers) s (B .passed .server) w tables′ (H .current) (rowOf τ)
+      (record {
+        size = written-table .1;
+        table = λ t k d. table-others (x .tables) table′ (S .servers .tables-size) (length-marked-all table locks n ∙ size) s (B .passed .server) t d;
+        take = λ t d. refl;
+        row = λ t k d a. rows _ (alone t k d a);
+      })
+      (λ a. alone)
+      (rw (written-table .0)
+      (record {
+        sized = record { known = tie .sized .known; dropped = tie .sized .dropped; marks = tie .sized .marks };
+        current = λ a. tie .current awake;
+        opening = λ p. let e : _≡_ {A = ℕ} 0 1 = cc (p, serves) in absurd (omega arith);
+        serving = λ p. serving;
+      }))
+
+  -- ---- the session
+
+  stories : (u : ℕ) → z ≢ u → storyOf τ u ≡ storyOf σ u
+  stories u d =
+      rw (upd-other (σ .issued) z (suc (σ .issued z)) u d, upd-other (σ .log) z (upd (σ .log z) (suc (σ .issued z)) tx) u d)
+
+  abbrev K : ℕ → ℕ → Logged → History
+  K = issuedAs H
+
+  session : SessionTie (K z n (loggedOf tx) .sessions z) (storyOf τ z)
+  session =
+      rw (upd-same (H .sessions) z _, issued-z, log-z)
+      (record {
+        opened = λ e. told-issued (H .sessions z) (storyOf σ z) tx n next (S .sessions z .opened e) (B .inv .chain .filled z open-z);
+        before = λ e. absurd (true≢false (sym open-z ∙ e));
+      })
+
+  sessions : SessionsTie (K z n (loggedOf tx) .sessions) (storyOf τ)
+  sessions =
+      session-frame (H .sessions) (K z n (loggedOf tx) .sessions) (storyOf σ) (storyOf τ) (S .sessions) z
+      (λ u d. upd-other (H .sessions) z _ u d) stories session
+
+  -- the issued record is the one that the server holds
+  held : serverAt (issueEffect x s q content locks .state .records) s .held ≡ tx .bytes
+  unfolding issueEffect
+  held = ap (λ (u : Server). u .held) (getD-set-same (x .records .servers) s w noServer (omega (arith, S .servers .size, B .passed .server)))
+
+  pub issue-played : Played h x H σ (with-call (call.Issue s q) content locks given reader)
+  unfolding issueEffect told
+  issue-played = (
+    τ,
+    issue-answered σ z tx (estimateOf table′) can,
+    record {
+      R = S .R;
+      Q = S .Q;
+      register = S .register;
+      replicas = S .replicas;
+      servers = servers;
+      sessions = rw (held, tie .current (open-lives v serves)) sessions;
+    },
+  )

@@ -1,0 +1,44 @@
+// Any of the eleven calls: the list of which the guarantee speaks is a list of these.
+ghost use mathlib.Core.Path.{_≡_};
+ghost use Rattle.cluster.specs.Step.{step};
+ghost use Rattle.admit.specs.Results.{stateOf, resultOf};
+use cluster::Call;
+use cluster::Outcome;
+use cluster::Records;
+use cluster::Shape;
+
+pub fn apply(
+    shape: Shape,
+    records: Records,
+    media: &mut [u8],
+    tables: &mut [u64],
+    call: Call,
+    content: &[u8],
+    locks: &[u64],
+    given: &[u8; 64],
+) -> Outcome
+    ensures { λ o. ⌜ resultOf o (now (media .exit)) (now (tables .exit)) ≡ step shape (stateOf records (now (media .entry)) (now (tables .entry))) (record { call = call; content = now (content .entry); locks = now (locks .entry); given = now (given .entry) }) ⌝ }
+{
+    match call {
+        Call::Take(s, f) => register::take::take(shape, records, media, tables, s, f),
+        Call::Prepare(s, i, f) => messages::prepare(shape, records, media, tables, s, i, f, given),
+        Call::Copy(s, a, b, f) => appends::copy(shape, records, media, tables, s, a, b, f, given),
+        Call::Trim(s, i, f) => messages::trim(shape, records, media, tables, s, i, f, given),
+        Call::Open(s, f) => register::open::open(shape, records, media, tables, s, f),
+        Call::Issue(s, q) => local_calls::issue::issue(
+            shape,
+            records,
+            media,
+            tables,
+            s,
+            q,
+            content,
+            locks,
+        ),
+        Call::Send(s, i, f) => appends::send(shape, records, media, tables, s, i, f, given),
+        Call::Note(s, i, f) => messages::note(shape, records, media, tables, s, i, f, given),
+        Call::Read(s, i, n, f) => messages::read(shape, records, media, tables, s, i, n, f, given),
+        Call::Stop(s) => local_calls::stop::stop(shape, records, media, tables, s),
+        Call::Reassign => local_calls::reassign::reassign(shape, records, media, tables),
+    }
+}

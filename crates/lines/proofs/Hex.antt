@@ -12,7 +12,8 @@ use Rattle.base.proofs.Tests.{both}
 use Rattle.octets.specs.Octets.{writeAt}
 use Rattle.octets.proofs.Lists.{drop-next}
 use Rattle.lines.specs.Values.{digitOf, isHex, bytesOf}
-use Rattle.lines.proofs.Writes.{write-next, write-none}
+use Rattle.octets.proofs.Laws.{write-none}
+use Rattle.lines.proofs.Writes.{write-next}
 
 -- ---- one digit
 

@@ -2,13 +2,13 @@
 -- Assumes nothing.
 use mathlib.Core.Path.{_≡_, refl, sym, ap, _∙_}
 use mathlib.Core.List.{List, [], _∷_, _++_}
-use Prim.Native.Nat.{ℕ, _+_, _<_, _≤_}
+use Prim.Native.Nat.{ℕ, _+_, _<_}
 use native.Mathlib.Numerals.{add-one}
 use native.Mathlib.Omega.{arith}
-use lib.ListN.{length, take, drop, set, take-append-drop}
+use lib.ListN.{length, take, drop, set}
 use lib.Seq.{set-split}
 use Rattle.octets.specs.Octets.{writeAt}
-use Rattle.octets.proofs.Laws.{length-write, write-write}
+use Rattle.octets.proofs.Laws.{write-write}
 
 set-write : (l : List ℕ) (i v : ℕ) → i < length l → set l i v ≡ writeAt i (v ∷ []) l
 unfolding writeAt
@@ -17,14 +17,3 @@ set-write l i v h = set-split l i v h ∙ ap (λ (n : ℕ). take i l ++ (v ∷ d
 -- the first element is written, then the others behind it
 pub write-next : (l : List ℕ) (i v : ℕ) (vs : List ℕ) → i < length l → writeAt i (v ∷ vs) l ≡ writeAt (i + 1) vs (set l i v)
 write-next l i v vs h = sym (ap (writeAt (i + 1) vs) (set-write l i v h) ∙ write-write i (i + 1) (v ∷ []) vs l (omega arith) refl)
-
-pub write-none : (l : List ℕ) (i : ℕ) → writeAt i [] l ≡ l
-unfolding writeAt
-write-none l i = let q : i + 0 ≡ i = omega arith in ap (λ (n : ℕ). take i l ++ drop n l) q ∙ take-append-drop i l
-
--- three writes, each behind the one before, are one
-pub write-three : (l a b c : List ℕ) (i j : ℕ) → length a ≡ i → i + length b ≡ j → i ≤ length l → writeAt j c (writeAt i b (writeAt 0 a l)) ≡ writeAt 0 (a ++ (b ++ c)) l
-write-three l a b c i j p q h =
-    let n : 0 + length a ≡ i = omega arith in
-    let m : i ≤ length (writeAt 0 a l) = omega (arith, length-write 0 a l (omega arith)) in
-    write-write i j b c (writeAt 0 a l) m q ∙ write-write 0 i a (b ++ c) l (omega arith) n

@@ -6,7 +6,7 @@ use Prim.Native.Nat.{_+_}
 use lib.ListN.{length, length-append}
 use Rattle.octets.specs.Octets.{writeAt}
 use Rattle.lines.specs.Texts.{decimalOf}
-use Rattle.lines.proofs.Writes.{write-three}
+use Rattle.octets.proofs.Laws.{write-three}
 use native.Mathlib.Omega.{arith}
 use borrow.Author.Needs.{needs}
 use Rattle.lines.proofs.replies.put_tagged.Statement.{statement}

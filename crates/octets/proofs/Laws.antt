@@ -6,7 +6,7 @@ use Prim.Native.Nat.{ℕ, zero, suc, _+_, _-_, _*_, _/_, _%_, _^_, _<_, _≤_}
 use native.Mathlib.Nat.{zero-add, suc-add, add-sub-cancel-left}
 use native.Mathlib.Numerals.{add-one}
 use native.Mathlib.Omega.{arith}
-use lib.ListN.{length, getD, take, drop, length-append, length-take, length-drop}
+use lib.ListN.{length, getD, take, drop, take-append-drop, length-append, length-take, length-drop}
 use lib.Seq.{take-append-le, take-at, drop-at, take-take, drop-drop, length-take-le, take-nil, drop-length}
 use borrow.Rule.Slice.PartMut.{putMid}
 use Rattle.octets.specs.Octets.{part, writeAt, beBytes}
@@ -101,3 +101,15 @@ write-write o p a b m h e =
 pub write-all : (bs m : List ℕ) → length bs ≡ length m → writeAt 0 bs m ≡ bs
 unfolding writeAt
 write-all bs m h = ap (λ (n : ℕ). bs ++ drop n m) (zero-add (length bs) ∙ h) ∙ ap (λ (r : List ℕ). bs ++ r) (drop-length m) ∙ append-nil bs
+
+-- a write of nothing
+pub write-none : (m : List ℕ) (o : ℕ) → writeAt o [] m ≡ m
+unfolding writeAt
+write-none m o = let q : o + 0 ≡ o = omega arith in ap (λ (n : ℕ). take o m ++ drop n m) q ∙ take-append-drop o m
+
+-- three writes, each behind the one before, are one
+pub write-three : (m a b c : List ℕ) (o p : ℕ) → length a ≡ o → o + length b ≡ p → o ≤ length m → writeAt p c (writeAt o b (writeAt 0 a m)) ≡ writeAt 0 (a ++ (b ++ c)) m
+write-three m a b c o p e f h =
+    let n : 0 + length a ≡ o = omega arith in
+    let k : o ≤ length (writeAt 0 a m) = omega (arith, length-write 0 a m (omega arith)) in
+    write-write o p b c (writeAt 0 a m) k f ∙ write-write 0 o a (b ++ c) m (omega arith) n

@@ -1,11 +1,11 @@
 // Which command a line is, and its answer.
 ghost use mathlib.Core.Path.{_≡_};
 ghost use Rattle.crc32.specs.Tables.{tablesOf};
-use crate::line;
 use crate::media;
 use crate::operation;
 use crate::records;
 use crc32::Tables;
+use text::line;
 
 enum Command {
     Crc,

@@ -1,10 +1,10 @@
 // The fate of an operation, as three fields of a line say it.
 ghost use Prim.Native.Nat.{_≤_};
-use crate::line;
-use crate::number;
-use crate::number::Number;
 use fate::Fate;
 use fate::Left;
+use text::line;
+use text::number;
+use text::number::Number;
 
 // The fate, if the fields are those of one.
 pub enum Told {

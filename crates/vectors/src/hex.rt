@@ -3,7 +3,7 @@ ghost use mathlib.Core.Path.{_≡_};
 ghost use mathlib.Core.Bool.{true};
 ghost use Prim.Native.Nat.{_*_, _<_};
 ghost use lib.ListN.{length};
-ghost use Rattle.vectors.specs.Text.{glyphOf, hexOf};
+ghost use Rattle.vectors.specs.Hex.{glyphOf, hexOf};
 
 // The digit of a number below 16.
 fn glyph(d: u8) -> u8

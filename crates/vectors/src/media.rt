@@ -9,9 +9,6 @@ ghost use Rattle.storage.specs.AsRead.{AsRead};
 use crate::fates;
 use crate::fates::Told;
 use crate::hex;
-use crate::line;
-use crate::number;
-use crate::number::Number;
 use crate::operation;
 use crate::operation::Command;
 use crate::operation::Operation;
@@ -24,6 +21,9 @@ use storage::replica::Read;
 use storage::sizes::PLACE;
 use storage::sizes::SLOTS;
 use storage::slot::Current;
+use text::line;
+use text::number;
+use text::number::Number;
 
 // The most places of a medium whose digits fit in a line.
 const MOST: u64 = 14;

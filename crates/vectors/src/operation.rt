@@ -1,10 +1,10 @@
 // What a replica is asked to do, as a line says it.
 ghost use Prim.Native.Nat.{_≤_};
 use crate::hex;
-use crate::line;
-use crate::number;
-use crate::number::Number;
 use storage::replica::Closing;
+use text::line;
+use text::number;
+use text::number::Number;
 
 // The commands on a medium; the first only reads it.
 pub enum Command {

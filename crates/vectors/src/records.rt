@@ -6,10 +6,6 @@ ghost use Rattle.crc32.specs.Tables.{tablesOf};
 ghost use Rattle.storage.specs.Sizes.{placeSize, dataLimit};
 ghost use Rattle.storage.specs.Places.{sizeOf};
 use crate::hex;
-use crate::line;
-use crate::number;
-use crate::number::Number;
-use crate::number::Word;
 use crate::print;
 use crc32::Tables;
 use storage::place;
@@ -20,6 +16,10 @@ use storage::sizes::PLACE;
 use storage::sizes::SLOT;
 use storage::slot;
 use storage::slot::Slot;
+use text::line;
+use text::number;
+use text::number::Number;
+use text::number::Word;
 
 // crc, BYTES.
 pub fn crc(t: &Tables, line: &[u8]) -> bool

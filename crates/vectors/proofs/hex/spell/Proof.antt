@@ -5,7 +5,7 @@ use Prim.Native.Nat.{_*_, _-_, _≤_}
 use native.Mathlib.Omega.{arith}
 use lib.ListN.{length, take, length-set}
 use borrow.Author.Needs.{needs}
-use Rattle.vectors.specs.Text.{hexOf}
+use Rattle.vectors.specs.Hex.{hexOf}
 use Rattle.vectors.proofs.Spelling.{spell-next, hex-end}
 use Rattle.vectors.proofs.hex.spell.Statement.{statement}
 use Rattle.vectors.proofs.hex.spell.Tie as tie

@@ -1,0 +1,3 @@
+// The text of a line: its fields, and numbers in base ten.
+pub mod line;
+pub mod number;

@@ -5,3 +5,4 @@ pub mod Numbers
 pub mod Bare
 pub mod Decimals
 pub mod Gives
+pub mod Counts

@@ -1,0 +1,53 @@
+-- The counts that a call's line answers are within the buffers, and a reply within its longest.
+-- Assumes nothing.
+use mathlib.Core.Path.{_≡_, ap}
+use mathlib.Core.List.{List, [], _∷_, _++_}
+use mathlib.Core.Bool.{Bool, true, false, cond}
+use Prim.Native.Nat.{ℕ, zero, suc, _+_, _/_, _%_, _≤_}
+use native.Mathlib.Omega.{arith}
+use lib.Dec.{ltb}
+use lib.ListN.{length, length-append}
+use Rattle.octets.specs.Octets.{writeAt}
+use Rattle.cluster.specs.declared.Call.{Call}
+use Rattle.cluster.specs.declared.Answer.the-variants as answer
+use Rattle.cluster.specs.Replies.{numberOf}
+use Rattle.lines.specs.declared.replies.Printed.{Printed}
+use Rattle.lines.specs.declared.replies.Printed.the-variants as printed
+use Rattle.lines.specs.declared.forms.Line.{Line}
+use Rattle.lines.specs.declared.forms.Line.the-variants as line
+use Rattle.lines.specs.Forms.{Meaning, bad, cluster, asked, lineOf, dataOf, locksOf}
+use Rattle.lines.specs.Texts.{spelled, tagged, textOf}
+
+-- a write is no longer than what it leaves
+write-within : (a l e : List ℕ) → e ≡ writeAt 0 a l → length a ≤ length e
+unfolding writeAt
+write-within a l e p = omega (arith, simp length-append at (ap length p))
+
+pub counted : (m : Meaning) (r : Line) (c : Call) (d k : ℕ) (x y u v : List ℕ) → r ≡ line.Asked c d k → (r ≡ lineOf m) × ((y ≡ writeAt 0 (dataOf m) x) × (v ≡ writeAt 0 (locksOf m) u)) → (d ≤ length y) × (k ≤ length v)
+counted bad r c d k x y u v e g = let z : _≡_ {A = ℕ} 0 1 = cc (e, g .0) in absurd (omega arith)
+counted (cluster a b) r c d k x y u v e g = let z : _≡_ {A = ℕ} 0 1 = cc (e, g .0) in absurd (omega arith)
+counted (asked c′ ds ls) r c d k x y u v e g =
+    let p : d ≡ length ds = cc (e, g .0) in
+    let q : k ≡ length ls = cc (e, g .0) in
+    (omega (arith, write-within ds x y (g .1 .0)), omega (arith, write-within ls u v (g .1 .1)))
+
+-- ---- replies
+
+spelled-few : (k n : ℕ) → length (spelled k n) ≤ k
+unfolding spelled
+spelled-few zero n = omega arith
+spelled-few (suc k) n = go (ltb n 10) (spelled-few k (n / 10))
+  where
+    go : (t : Bool) → length (spelled k (n / 10)) ≤ k → length (cond t ((48 + n) ∷ []) (spelled k (n / 10) ++ ((48 + n % 10) ∷ []))) ≤ suc k
+    go true h = omega arith
+    go false h = simp length-append (omega arith)
+
+tagged-short : (a b n : ℕ) → length (tagged (a ∷ b ∷ []) n) ≤ 24
+tagged-short a b n = simp length-append (omega (arith, spelled-few 20 n))
+
+pub text-short : (p : Printed) → length (textOf p) ≤ 24
+text-short printed.Bad = omega arith
+text-short (printed.Reply answer.Done) = omega arith
+text-short (printed.Reply (answer.Value v)) = tagged-short 111 107 v
+text-short (printed.Reply answer.Silent) = omega arith
+text-short (printed.Reply (answer.Declined w)) = tagged-short 110 111 (numberOf w)

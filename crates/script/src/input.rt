@@ -1,0 +1,31 @@
+// The bytes of a line as they come, in pieces.
+ghost use mathlib.Core.Path.{_≡_};
+ghost use Prim.Native.Nat.{_≤_};
+ghost use lib.ListN.{length};
+ghost use Rattle.io.specs.Counts.{Counts};
+
+fn least(a: usize, b: usize) -> usize
+    ensures { λ r. ⌜ r ≤ a ⌝ }
+    ensures { λ r. ⌜ r ≤ b ⌝ }
+{
+    if a < b { a } else { b }
+}
+
+// A piece behind the n bytes held of its line, as far as there is room: how many are held now.
+pub fn keep(held: &mut [u8], n: usize, piece: &[u8]) -> usize
+    requires { ⌜ n ≤ length (now held) ⌝ }
+    ensures { λ r. ⌜ r ≤ length (now (held .entry)) ⌝ }
+{
+    let k = least(piece.len(), held.len() - n);
+    let e = n + k;
+    octets::copy(&mut held[n..e], &piece[0..k]);
+    e
+}
+
+// What one read gives; 0 at the end of the input.
+pub fn some(fd: i32, chunk: &mut [u8]) -> usize
+    ensures { λ r. ⌜ Counts r (now (chunk .exit)) ⌝ }
+{
+    let got = libc::read(fd, chunk);
+    io::count(got, chunk)
+}

@@ -1,0 +1,94 @@
+//! What the scripts of the first 200 seeds reach.
+
+use std::collections::BTreeSet;
+
+use twin::compare::counts::{Counts, Kind};
+use twin::compare::scripts::{script, Script};
+use twin::compare::{malformed, pieces, unusual};
+use twin::script::run;
+
+fn scripts() -> impl Iterator<Item = Script> {
+    (1..=200).map(script)
+}
+
+/// The refusals that lines of the script program can meet. Not 2: no mark is above N in a fresh
+/// cluster, and no call makes one so. Not 6: a line has no fate that cuts. Not 18: a slot write
+/// that is not cut leaves a valid slot. Not 20: a replica that still promises this session was
+/// written by it alone since its prepare, each answer sets the recorded mark to the stored one,
+/// and after silence 7 comes first. Not 21: that takes 2^64 - 1 takes, and reassign has no form.
+const MET: [u64; 17] = [1, 3, 4, 5, 7, 8, 9, 10, 11, 12, 13, 14, 15, 16, 17, 19, 22];
+
+#[test]
+fn every_kind_of_reply() {
+    let mut counts = Counts::default();
+    for script in scripts() {
+        counts.add_script(&script.input);
+        counts.add_replies(&run(&script.input));
+    }
+    let expected = MET.into_iter().map(Kind::No).chain([Kind::Ok, Kind::Silent, Kind::Bad]);
+    let met: BTreeSet<Kind> = counts.replies.keys().copied().collect();
+    assert_eq!(met, expected.collect());
+    assert!(counts.replies[&Kind::Ok] * 3 > counts.lines, "few calls get somewhere: {counts}");
+}
+
+#[test]
+fn every_kind_of_line() {
+    let (mut spoilt, mut odd) = (BTreeSet::new(), BTreeSet::new());
+    for mut script in scripts() {
+        spoilt.append(&mut script.malformed);
+        odd.append(&mut script.unusual);
+    }
+    assert_eq!(spoilt, BTreeSet::from(malformed::ALL));
+    assert_eq!(odd, BTreeSet::from(unusual::ALL));
+}
+
+#[test]
+fn every_kind_of_input() {
+    let met = |fits: fn(&Script) -> bool| scripts().any(|script| fits(&script));
+    let is_call = |script: &Script| script.input.starts_with(b"take\t");
+    assert!(met(|script| script.input.is_empty()));
+    assert!(met(|script| script.input.len() > 1 && script.input.iter().all(|&it| it == b'\n')));
+    assert!(met(|script| !script.input.ends_with(b"\n") && !script.input.is_empty()));
+    assert!(met(is_call), "a call before the first cluster line");
+    assert!(met(|script| script.input.len() > 1 << 20));
+    assert!(met(|script| script.by_piece && script.pieces.contains(&pieces::LONGEST)));
+    assert!(met(|script| !script.by_piece && script.input.len() > pieces::LONGEST));
+    let many_lines = |script: &Script| {
+        let lines = script.input.iter().filter(|&&byte| byte == b'\n').count();
+        script.input.len() > pieces::LONGEST && lines > 1_000
+    };
+    assert!(met(many_lines));
+}
+
+/// Sessions that find records of earlier ones: an open line answered with a mark above 0.
+#[test]
+fn recoveries() {
+    let mut found = 0;
+    for script in scripts() {
+        let output = run(&script.input);
+        let replies = output.split(|&byte| byte == b'\n');
+        let lines = script.input.split(|&byte| byte == b'\n');
+        let recovers = |(line, reply): &(&[u8], &[u8])| {
+            line.starts_with(b"open\t") && reply.starts_with(b"ok\t") && *reply != b"ok\t0"
+        };
+        found += lines.zip(replies).filter(recovers).count();
+    }
+    assert!(found > 200, "{found}");
+}
+
+#[test]
+fn pieces_make_up_the_input() {
+    for script in scripts() {
+        assert_eq!(script.pieces.iter().sum::<usize>(), script.input.len());
+        assert!(script.pieces.iter().all(|piece| (1..=pieces::LONGEST).contains(piece)));
+    }
+}
+
+#[test]
+fn one_reply_a_line() {
+    for script in scripts() {
+        let lines = script.input.split_inclusive(|&byte| byte == b'\n').count();
+        let output = run(&script.input);
+        assert_eq!(output.iter().filter(|&&byte| byte == b'\n').count(), lines);
+    }
+}

@@ -24,7 +24,7 @@ impl Caller {
     pub fn new(random: &mut Random) -> Caller {
         Caller {
             trouble: *random.pick(&[3, 8, 25, 100]),
-            handover: *random.pick(&[4, 12, 40, 120]),
+            handover: *random.pick(&[2, 6, 25, 120]),
             wander: *random.pick(&[5, 15, 60]),
         }
     }

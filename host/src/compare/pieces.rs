@@ -10,15 +10,12 @@ const MOST_PIECES: usize = 10_000;
 
 /// Lengths from 1 to `LONGEST` that sum up to `length`.
 pub fn draw(random: &mut Random, length: usize) -> Vec<usize> {
-    let widest = *random.pick(&[1, 3, 40, 700, 5_000, LONGEST]);
-    let widest = widest.max(2 * length / MOST_PIECES);
+    let full = random.chance(3);
+    let widest = *random.pick(&[1, 3, 40, 700, 5_000]).max(&(2 * length / MOST_PIECES));
     let mut pieces = Vec::new();
     let mut left = length;
     while left > 0 {
-        let piece = match widest {
-            LONGEST => LONGEST,
-            _ => 1 + random.below(widest as u64) as usize,
-        };
+        let piece = if full { LONGEST } else { 1 + random.below(widest as u64) as usize };
         pieces.push(piece.min(left));
         left -= piece.min(left);
     }

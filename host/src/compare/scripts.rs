@@ -34,7 +34,7 @@ pub fn script(seed: u64) -> Script {
         0 => {}
         1 => (0..1 + random.below(300)).for_each(|_| writer.line(b"")),
         2 => writer.before_cluster(random),
-        3 => writer.runs(random, LARGE),
+        3 | 4 => writer.runs(random, LARGE),
         _ => writer.runs(random, 1),
     }
     let mut input = writer.input;
@@ -134,7 +134,9 @@ impl Writer {
         let call = caller.next_call(random, cluster);
         if random.chance(self.oddity) {
             let issue = calls::issue_line(random, cluster);
-            self.odd_line(random, &call, &issue);
+            let cluster = Line::new("cluster").number(3).number(4);
+            let source = if random.chance(8) { &cluster } else { &call };
+            self.odd_line(random, source, &issue);
         }
         self.line(&call.bytes());
     }

@@ -42,22 +42,30 @@ fn every_kind_of_line() {
     assert_eq!(odd, BTreeSet::from(unusual::ALL));
 }
 
+fn met(fits: impl Fn(&Script) -> bool) -> bool {
+    scripts().any(|script| fits(&script))
+}
+
+fn newlines(script: &Script) -> usize {
+    script.input.iter().filter(|&&byte| byte == b'\n').count()
+}
+
+fn is_long(script: &Script) -> bool {
+    script.input.len() > pieces::LONGEST
+}
+
 #[test]
 fn every_kind_of_input() {
-    let met = |fits: fn(&Script) -> bool| scripts().any(|script| fits(&script));
-    let is_call = |script: &Script| script.input.starts_with(b"take\t");
-    assert!(met(|script| script.input.is_empty()));
-    assert!(met(|script| script.input.len() > 1 && script.input.iter().all(|&it| it == b'\n')));
-    assert!(met(|script| !script.input.ends_with(b"\n") && !script.input.is_empty()));
-    assert!(met(is_call), "a call before the first cluster line");
-    assert!(met(|script| script.input.len() > 1 << 20));
-    assert!(met(|script| script.by_piece && script.pieces.contains(&pieces::LONGEST)));
-    assert!(met(|script| !script.by_piece && script.input.len() > pieces::LONGEST));
-    let many_lines = |script: &Script| {
-        let lines = script.input.iter().filter(|&&byte| byte == b'\n').count();
-        script.input.len() > pieces::LONGEST && lines > 1_000
-    };
-    assert!(met(many_lines));
+    let input = |script: &Script| script.input.clone();
+    assert!(met(|it| input(it).is_empty()), "nothing");
+    assert!(met(|it| newlines(it) > 1 && newlines(it) == input(it).len()), "newlines alone");
+    assert!(met(|it| !input(it).is_empty() && !input(it).ends_with(b"\n")), "no last newline");
+    assert!(met(|it| input(it).starts_with(b"take\t")), "a call before any cluster");
+    assert!(met(|it| input(it).len() > 1 << 20), "a line of a megabyte");
+    assert!(met(|it| is_long(it) && newlines(it) > 1_000), "many lines");
+    assert!(met(|it| is_long(it) && !it.by_piece), "more than a pipe holds");
+    let full = |script: &Script| script.by_piece && script.pieces.contains(&pieces::LONGEST);
+    assert!(met(full), "a read that fills its room");
 }
 
 /// Sessions that find records of earlier ones: an open line answered with a mark above 0.

@@ -8,8 +8,8 @@ use twin::script::Program;
 
 const OPENING: &[u8] = b"cluster\t3\t4\ntake\t0\t0\nprep\t0\t0\t0\nprep\t0\t1\t0\nopen\t0\t0\n";
 
-/// Hands each of many calls on an open cluster to `check`, with an issue line and the reply that
-/// a line would get there.
+/// Hands each of many calls on an open cluster to `check`, and a cluster line, both with an issue
+/// line.
 fn on_open_cluster(check: impl Fn(&mut Random, &Line, &Line, &mut Program)) {
     let mut random = Random::new(3);
     for _ in 0..100 {
@@ -19,6 +19,8 @@ fn on_open_cluster(check: impl Fn(&mut Random, &Line, &Line, &mut Program)) {
         let call = Caller::new(&mut random).next_call(&mut random, &cluster);
         let issue = issue_line(&mut random, &cluster);
         check(&mut random, &call, &issue, &mut program);
+        let again = Line::new("cluster").number(3).number(4);
+        check(&mut random, &again, &issue, &mut program);
     }
 }
 

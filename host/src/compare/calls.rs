@@ -1,13 +1,17 @@
 //! Draws calls that get somewhere, by looking at the cluster that they are made on: recoveries,
 //! handed-over servers, logs up to their last place; with fates, and calls that must be declined.
 
+use std::iter::repeat_with;
+use std::sync::OnceLock;
+
 use super::line::Line;
 use crate::cluster::{Cluster, Phase, Server, Standing};
 use crate::hex;
+use crate::locks::lock_places;
 use crate::random::Random;
 use crate::votes::{decided, quorum};
 
-/// Few, so that requests meet each other's locks.
+/// Few, so that requests name the same ones.
 const LOCKS: [u64; 8] = [0, 1, 2, 3, 1_000_003, 1 << 32, 1 << 63, u64::MAX];
 
 /// How rough a run of calls is.
@@ -144,9 +148,9 @@ pub fn issue_line(random: &mut Random, cluster: &Cluster) -> Line {
     issue(random, record(cluster, server), server)
 }
 
-/// Mostly a client that has read the whole log and small data, so that locks decide.
+/// Mostly what only locks can refuse.
 fn issue(random: &mut Random, held: &Server, server: u64) -> Line {
-    let behind = *random.pick(&[0, 0, 0, 0, 1, 2]);
+    let (behind, locks) = draw_locks(random, held);
     let ahead = u64::from(random.chance(30));
     let client_mark = held.acknowledged.saturating_sub(behind) + ahead;
     let generation = held.generation + u32::from(random.chance(30));
@@ -154,10 +158,35 @@ fn issue(random: &mut Random, held: &Server, server: u64) -> Line {
     let header = *random.pick(&[0, 9, u32::MAX, any_word]);
     let length = *random.pick(&[0, 0, 1, 1, 2, 5, 27, 28]) + usize::from(random.chance(30));
     let data = digits(random, length);
-    let count = random.below(4).min(random.below(4)) + 3 * u64::from(random.chance(30));
     let line = Line::new("issue").number(server).number(client_mark);
     let line = line.word(generation).word(header).data(&data);
-    (0..count).fold(line, |line, _| line.lock(*random.pick(&LOCKS)))
+    locks.into_iter().fold(line, Line::lock)
+}
+
+/// How far the client is behind the acknowledged mark, and its locks: few that many requests name,
+/// any, or crowded ones, which are refused for places that others wrote.
+fn draw_locks(random: &mut Random, held: &Server) -> (u64, Vec<u64>) {
+    let close = *random.pick(&[0, 0, 0, 0, 1, 2]);
+    let anywhere = random.below(held.acknowledged + 1);
+    let count = random.below(5) + 3 * u64::from(random.chance(30));
+    let style = random.below(3);
+    let mut draw = |lock: fn(&mut Random) -> u64| (0..count).map(|_| lock(random)).collect();
+    match style {
+        0 => (close, draw(|random| *random.pick(&LOCKS))),
+        1 => (close, draw(|random| *random.pick(crowded_locks()))),
+        _ => (anywhere, draw(Random::number)),
+    }
+}
+
+/// Locks whose places are all among a few of the table, so that those of one are soon written by
+/// others. They have 64 bits, so that every bit of the product counts.
+fn crowded_locks() -> &'static [u64] {
+    static FOUND: OnceLock<Vec<u64>> = OnceLock::new();
+    let is_crowded = |&lock: &u64| lock_places(lock).iter().all(|&place| place < 32);
+    FOUND.get_or_init(|| {
+        let mut random = Random::new(0);
+        repeat_with(|| random.number()).filter(is_crowded).take(40).collect()
+    })
 }
 
 /// Bytes in hexadecimal, in capitals, small letters or both.

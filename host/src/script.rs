@@ -29,6 +29,11 @@ pub struct Program {
 }
 
 impl Program {
+    /// The cluster as the lines so far left it, if one was accepted.
+    pub fn cluster(&self) -> Option<&Cluster> {
+        self.cluster.as_ref()
+    }
+
     /// Takes the next piece of input and appends the replies to the lines that it ends.
     pub fn feed(&mut self, input: &[u8], output: &mut Vec<u8>) {
         let mut pieces = input.split(|&byte| byte == b'\n');

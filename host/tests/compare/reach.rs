@@ -1,0 +1,102 @@
+//! What the scripts of the first 200 seeds reach.
+
+use std::collections::BTreeSet;
+
+use twin::compare::counts::{Counts, Kind};
+use twin::compare::scripts::{script, Script};
+use twin::compare::{malformed, pieces, unusual};
+use twin::script::run;
+
+fn scripts() -> impl Iterator<Item = Script> {
+    (1..=200).map(script)
+}
+
+/// The refusals that lines of the script program can meet. Not 2: no mark is above N in a fresh
+/// cluster, and no call makes one so. Not 6: a line has no fate that cuts. Not 18: a slot write
+/// that is not cut leaves a valid slot. Not 20: a replica that still promises this session was
+/// written by it alone since its prepare, each answer sets the recorded mark to the stored one,
+/// and after silence 7 comes first. Not 21: that takes 2^64 - 1 takes, and reassign has no form.
+const MET: [u64; 17] = [1, 3, 4, 5, 7, 8, 9, 10, 11, 12, 13, 14, 15, 16, 17, 19, 22];
+
+#[test]
+fn every_kind_of_reply() {
+    let mut counts = Counts::default();
+    for script in scripts() {
+        counts.add_script(&script.input);
+        counts.add_replies(&run(&script.input));
+    }
+    let expected = MET.into_iter().map(Kind::No).chain([Kind::Ok, Kind::Silent, Kind::Bad]);
+    let met: BTreeSet<Kind> = counts.replies.keys().copied().collect();
+    assert_eq!(met, expected.collect());
+    assert!(counts.replies[&Kind::Ok] * 3 > counts.lines, "few calls get somewhere: {counts}");
+}
+
+#[test]
+fn every_kind_of_line() {
+    let (mut spoilt, mut odd) = (BTreeSet::new(), BTreeSet::new());
+    for mut script in scripts() {
+        spoilt.append(&mut script.malformed);
+        odd.append(&mut script.unusual);
+    }
+    assert_eq!(spoilt, BTreeSet::from(malformed::ALL));
+    assert_eq!(odd, BTreeSet::from(unusual::ALL));
+}
+
+fn met(fits: impl Fn(&Script) -> bool) -> bool {
+    scripts().any(|script| fits(&script))
+}
+
+fn newlines(script: &Script) -> usize {
+    script.input.iter().filter(|&&byte| byte == b'\n').count()
+}
+
+fn is_long(script: &Script) -> bool {
+    script.input.len() > pieces::LONGEST
+}
+
+#[test]
+fn every_kind_of_input() {
+    let input = |script: &Script| script.input.clone();
+    assert!(met(|it| input(it).is_empty()), "nothing");
+    assert!(met(|it| newlines(it) > 1 && newlines(it) == input(it).len()), "newlines alone");
+    assert!(met(|it| !input(it).is_empty() && !input(it).ends_with(b"\n")), "no last newline");
+    assert!(met(|it| input(it).starts_with(b"take\t")), "a call before any cluster");
+    assert!(met(|it| input(it).len() > 1 << 20), "a line of a megabyte");
+    assert!(met(|it| is_long(it) && newlines(it) > 1_000), "many lines");
+    assert!(met(|it| is_long(it) && !it.by_piece), "more than a pipe holds");
+    let full = |script: &Script| script.by_piece && script.pieces.contains(&pieces::LONGEST);
+    assert!(met(full), "a read that fills its room");
+}
+
+/// Sessions that find records of earlier ones: an open line answered with a mark above 0.
+#[test]
+fn recoveries() {
+    let mut found = 0;
+    for script in scripts() {
+        let output = run(&script.input);
+        let replies = output.split(|&byte| byte == b'\n');
+        let lines = script.input.split(|&byte| byte == b'\n');
+        let recovers = |(line, reply): &(&[u8], &[u8])| {
+            line.starts_with(b"open\t") && reply.starts_with(b"ok\t") && *reply != b"ok\t0"
+        };
+        found += lines.zip(replies).filter(recovers).count();
+    }
+    assert!(found > 200, "{found}");
+}
+
+#[test]
+fn pieces_make_up_the_input() {
+    for script in scripts() {
+        assert_eq!(script.pieces.iter().sum::<usize>(), script.input.len());
+        assert!(script.pieces.iter().all(|piece| (1..=pieces::LONGEST).contains(piece)));
+    }
+}
+
+#[test]
+fn one_reply_a_line() {
+    for script in scripts() {
+        let lines = script.input.split_inclusive(|&byte| byte == b'\n').count();
+        let output = run(&script.input);
+        assert_eq!(output.iter().filter(|&&byte| byte == b'\n').count(), lines);
+    }
+}

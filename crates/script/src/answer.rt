@@ -5,7 +5,9 @@ ghost use Prim.Native.Nat.{_*_, _≤_};
 ghost use lib.ListN.{length};
 ghost use Rattle.crc32.specs.Tables.{tablesOf};
 ghost use Rattle.storage.specs.Sizes.{mediumSize};
+ghost use Rattle.lines.specs.Forms.{meaningOf};
 ghost use Rattle.script.specs.Shapes.{accepted, mediaLimit, tablesLength};
+ghost use Rattle.script.specs.Answers.{afterOf, clusterLine, callLine, inputOf, answerTo};
 use cluster::Answer;
 use cluster::Call;
 use cluster::Records;
@@ -79,6 +81,7 @@ fn cluster_line(t: &Tables, h: Held, shape: Shape, m: &mut [u8], tables: &mut [u
     requires { ⌜ now t ≡ tablesOf ⌝ }
     requires { ⌜ length (now m) ≡ mediaLimit ⌝ }
     requires { ⌜ length (now tables) ≡ tablesLength ⌝ }
+    ensures { λ n. ⌜ afterOf n (now (m .exit)) (now (tables .exit)) ≡ clusterLine shape h (now (m .entry)) (now (tables .entry)) ⌝ }
 {
     if !is_accepted(shape) {
         return Next {
@@ -107,6 +110,7 @@ fn call_line(
     tables: &mut [u64],
 ) -> Next
     requires { ⌜ length (now m) ≡ mediaLimit ⌝ }
+    ensures { λ n. ⌜ afterOf n (now (m .exit)) (now (tables .exit)) ≡ callLine (inputOf call (now (content .entry)) (now (locks .entry))) h (now (m .entry)) (now (tables .entry)) ⌝ }
 {
     let shape = h.shape;
     let records = h.records;
@@ -143,6 +147,7 @@ pub fn answer(t: &Tables, h: Held, line: &[u8], m: &mut [u8], tables: &mut [u64]
     requires { ⌜ now t ≡ tablesOf ⌝ }
     requires { ⌜ length (now m) ≡ mediaLimit ⌝ }
     requires { ⌜ length (now tables) ≡ tablesLength ⌝ }
+    ensures { λ n. ⌜ afterOf n (now (m .exit)) (now (tables .exit)) ≡ answerTo (meaningOf (now (line .entry))) h (now (m .entry)) (now (tables .entry)) ⌝ }
 {
     let mut content = [0u8; forms::LIMIT];
     let mut locks = [0u64; forms::LIMIT];

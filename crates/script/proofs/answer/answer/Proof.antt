@@ -1,7 +1,9 @@
 -- `answer::answer`: data and locks lie within their buffers.
 -- Assumes nothing.
+use mathlib.Core.Path.{sym, _∙_}
 use Rattle.lines.specs.Forms.{meaningOf}
 use Rattle.lines.proofs.Counts.{counted}
+use Rattle.script.proofs.Answers.{bad-line, cluster-line, call-line}
 use native.Mathlib.Omega.{arith}
 use borrow.Author.Needs.{needs}
 use Rattle.script.proofs.answer.answer.Statement.{statement}
@@ -56,7 +58,9 @@ call-line-requires : tie.Need-call-line-requires
 call-line-requires c κs = search needs
 
 returns : tie.Need-returns
-returns c = search needs
+returns c =
+    let a = c .before .before .before .before .before .before .before .before .before .before .args in
+    bad-line (meaningOf (a .line .now)) (a .h) (a .m .now) (a .tables .now) (sym (c .enum-told .given .1) ∙ c .before .before .before .before .read .ensures .0)
 
 same-length : tie.Need-same-length
 same-length c = search needs
@@ -65,7 +69,10 @@ same-length-2 : tie.Need-same-length-2
 same-length-2 c = search needs
 
 returns-2 : tie.Need-returns-2
-returns-2 c = search needs
+returns-2 c =
+    let a = c .before .before .before .before .before .before .before .before .before .before .before .before .before .before .before .before .before .before .args in
+    c .before .before .before .before .cluster-line .ensures
+    ∙ cluster-line (meaningOf (a .line .now)) (a .h) (a .m .now) (a .tables .now) _ _ (sym (c .before .before .before .before .before .before .before .before .r .given .1) ∙ c .before .before .before .before .before .before .before .before .before .before .before .before .read .ensures .0)
 
 same-length-3 : tie.Need-same-length-3
 same-length-3 c = search needs
@@ -74,7 +81,11 @@ same-length-4 : tie.Need-same-length-4
 same-length-4 c = search needs
 
 returns-3 : tie.Need-returns-3
-returns-3 c = search needs
+returns-3 c =
+    let a = c .before .before .before .before .before .before .before .before .before .before .before .before .before .before .before .before .before .before .before .before .before .before .args in
+    let r = c .before .before .before .before .before .before .before .before .before .before .before .before .before .before .before .before .read .ensures in
+    c .before .before .before .before .call-line .ensures
+    ∙ call-line (meaningOf (a .line .now)) (a .h) (a .m .now) (a .tables .now) _ _ _ _ _ _ _ (sym (c .before .before .before .before .before .before .before .before .before .before .before .before .call .given .1) ∙ r .0) (r .1 .0) (r .1 .1)
 
 pub answer-spec : {M : Type 1} → statement M
 answer-spec =

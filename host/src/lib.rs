@@ -20,3 +20,7 @@ pub mod exported;
 pub mod script;
 
 pub mod vectors;
+
+pub mod tries;
+
+pub mod drive;

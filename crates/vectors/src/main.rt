@@ -7,11 +7,8 @@ use crc32::Tables;
 use libc::STDIN_FILENO;
 
 mod answer;
-mod fates;
-mod hex;
 mod media;
 mod operation;
-mod print;
 mod records;
 
 // The longest line that is answered.

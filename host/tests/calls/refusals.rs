@@ -1,11 +1,11 @@
 //! Why a call is declined: for each call, every fault that it can meet, alone and with any others.
 //! The reply is the lowest number among the faults, and nothing changes.
 
-use crate::faults::{all_faults, Fault};
-use crate::scene::{all_scenes, Kind, Scene};
 use twin::cluster::{Answer, Message};
 use twin::fate::{Fate, Left};
 use twin::random::Random;
+use twin::tries::faults::{all_faults, Fault};
+use twin::tries::scene::{all_scenes, Kind, Scene};
 
 /// Faults of higher numbers come first, so that those of lower ones have the last word.
 fn with_faults(scene: &Scene, faults: &[&Fault]) -> Scene {

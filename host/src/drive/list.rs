@@ -4,14 +4,14 @@ use super::driver::Driver;
 use super::{useful, Run};
 use crate::cluster::{Call, Cluster, Entry, Message, Records, Shape};
 use crate::fate::{Fate, Left};
-use crate::medium::PLACE_BYTES;
+use crate::medium::{self, PLACE_BYTES};
 use crate::random::Random;
 use crate::tries::caller::Caller;
 use crate::tries::faults::all_faults;
-use crate::tries::scene::{all_scenes, set_promise, Kind, Scene, REPLICA, SERVER, SESSION};
+use crate::tries::scene::{
+    all_scenes, record_bytes, set_promise, Kind, Scene, REPLICA, SERVER, SESSION,
+};
 use crate::tries::states::Draw;
-
-const SEED: u64 = 1_006;
 
 /// R and N of the fresh clusters.
 const SHAPES: [(u64, u64); 12] = [
@@ -39,19 +39,18 @@ const CALLS_ON_STATE: u64 = 12;
 
 const CUTS: [Left; 3] = [Left::Old, Left::New, Left::Torn];
 
-pub fn drive() -> Run {
+pub fn drive(random: &mut Random) -> Run {
     let mut driver = Driver::new();
-    let mut random = Random::new(SEED);
     bad_lines(&mut driver);
     scenes(&mut driver);
     faults(&mut driver);
-    truncations(&mut driver, &mut random);
+    truncations(&mut driver, random);
     for _ in 0..LISTS {
         for (replicas, places) in SHAPES {
-            list(&mut driver, &mut random, Shape { replicas, places });
+            list(&mut driver, random, Shape { replicas, places });
         }
     }
-    states(&mut driver, &mut random);
+    states(&mut driver, random);
     driver.finish()
 }
 
@@ -164,18 +163,42 @@ fn list(driver: &mut Driver, random: &mut Random, shape: Shape) {
     }
 }
 
-/// Random calls on random states.
+/// Calls on random states, random ones and such that bring them on.
 fn states(driver: &mut Driver, random: &mut Random) {
-    for _ in 0..STATES {
-        let mut draw = Draw { random, places: 3 };
-        let mut cluster = draw.cluster();
-        corners(draw.random, &mut cluster);
+    for state in 0..STATES {
+        let places = if state < STATES / 2 { 3 } else { 5 };
+        let mut cluster = Draw { random, places }.cluster();
+        agree(random, &mut cluster);
+        corners(random, &mut cluster);
         driver.hand_in(cluster);
+        let caller = Caller::new(random);
         for _ in 0..CALLS_ON_STATE {
-            let call = draw.call(driver.cluster());
+            let call = match random.below(3) {
+                0 => Draw { random, places }.call(driver.cluster()),
+                _ => useful::next_call(random, &caller, driver.cluster()),
+            };
             let _ = driver.call(&call);
         }
     }
+}
+
+/// Makes a server and most replicas agree on session and marks, so that its messages are accepted.
+fn agree(random: &mut Random, cluster: &mut Cluster) {
+    if !cluster.shape.is_allowed() || cluster.media.len() % 2 == 1 {
+        return;
+    }
+    let mut server = cluster.records.servers[SERVER];
+    for replica in (0..cluster.shape.replicas as usize).filter(|_| !random.chance(5)) {
+        let medium = cluster.medium(replica);
+        server.marks[replica] = medium::mark(medium);
+        server.session = medium::current(medium).map_or(server.session, |(_, slot)| slot.promise);
+    }
+    if random.chance(2) {
+        server.issued = (server.marks[0] + 1).min(cluster.shape.places);
+        server.record = record_bytes(server.issued);
+    }
+    cluster.records.register.session = server.session;
+    cluster.records.servers[SERVER] = server;
 }
 
 /// What the drawn states have not: damage anywhere on a medium, a record held that passes as none,

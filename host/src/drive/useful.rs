@@ -8,7 +8,7 @@ use crate::votes;
 
 /// The next call of a server that knows what it wants; one in some is drawn at random.
 pub fn next_call(random: &mut Random, caller: &Caller, cluster: &Cluster) -> Call {
-    if random.chance(8) {
+    if random.chance(12) {
         return caller.next_call(random, cluster);
     }
     let server = pick_server(random, cluster);
@@ -29,7 +29,7 @@ fn pick_server(random: &mut Random, cluster: &Cluster) -> u64 {
     let other = random.below(4);
     let rate = match record(other).phase {
         _ if record(newest).phase == Phase::Idle => 1,
-        Phase::Idle => 40,
+        Phase::Idle => 60,
         _ => 5,
     };
     if random.chance(rate) {
@@ -73,7 +73,7 @@ impl Useful<'_> {
         let absent = self.replicas(|standing, _| standing != Standing::In);
         let quorum = votes::quorum(self.cluster.shape.replicas as usize);
         let enough = self.used(|_| true).len() >= quorum;
-        if !absent.is_empty() && (!enough || random.chance(3)) {
+        if !absent.is_empty() && (!enough || random.chance(2)) {
             return self.prepare(random, &absent);
         }
         let known = self.known_marks();
@@ -83,7 +83,7 @@ impl Useful<'_> {
             return self.copy_up(random, highest, &absent);
         };
         let (above, at) = (self.used(|other| other > mark), self.used(|other| other == mark));
-        if !above.is_empty() && random.chance(2) {
+        if !above.is_empty() && !random.chance(4) {
             return self.trim(random, &above);
         }
         if at.len() >= quorum && !random.chance(4) {
@@ -104,7 +104,8 @@ impl Useful<'_> {
     /// is acknowledged is read and noted, then more is issued.
     fn open_call(&self, random: &mut Random) -> Call {
         let Server { issued, acknowledged, .. } = *self.record;
-        if random.chance(8) {
+        let full = issued == self.cluster.shape.places;
+        if random.chance(if full && acknowledged == issued { 2 } else { 6 }) {
             return self.look(random);
         }
         let behind = self.used(|mark| mark + 1 == issued);

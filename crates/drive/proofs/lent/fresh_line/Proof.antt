@@ -1,14 +1,8 @@
-use native.Mathlib.Omega.{arith}
+-- `lent::fresh_line`: what is lent has the lengths of the shape.
+-- Assumes nothing.
 use borrow.Author.Needs.{needs}
 use Rattle.drive.proofs.lent.fresh_line.Statement.{statement}
 use Rattle.drive.proofs.lent.fresh_line.Tie as tie
-use Rattle.drive.proofs.lent.fresh_line.Reads as reads
-use Rattle.drive.proofs.lent.fresh_line.Lts as lts
-use Rattle.drive.proofs.fields.at.Reads as at-reads
-use Rattle.drive.proofs.held.fits.Reads as fits-reads
-use Rattle.drive.proofs.held.unfit.Reads as unfit-reads
-use Rattle.drive.proofs.lent.size.Reads as size-reads
-use Rattle.fresh.proofs.start.Reads as start-reads
 
 at-requires : tie.Need-at-requires
 at-requires c κs = search needs

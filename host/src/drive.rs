@@ -35,6 +35,8 @@
 mod counts;
 mod driver;
 mod list;
+mod random_states;
+mod scenes;
 mod state_lines;
 mod sums;
 mod texts;

@@ -49,16 +49,16 @@ impl Counts {
 
     /// How often the call was declined with this number.
     pub fn refused(&self, call: &str, number: u64) -> u64 {
-        let of_call =
-            self.replies.iter().filter(|((word, other), _)| *word == call && *other == number);
-        of_call.map(|(_, count)| count).sum()
+        let counted =
+            self.replies.iter().filter(|((word, met), _)| (*word, *met) == (call, number));
+        counted.map(|(_, count)| count).sum()
     }
 
     /// How often the call, not declined, had this fate.
     pub fn fate(&self, call: &str, fate: &str) -> u64 {
-        let of_call =
-            self.fates.iter().filter(|((word, name, _), _)| *word == call && *name == fate);
-        of_call.map(|(_, count)| count).sum()
+        let counted =
+            self.fates.iter().filter(|((word, name, _), _)| (*word, *name) == (call, fate));
+        counted.map(|(_, count)| count).sum()
     }
 
     /// The writes at which messages that were not declined were cut so.
@@ -104,19 +104,24 @@ impl fmt::Display for Counts {
     fn fmt(&self, f: &mut fmt::Formatter<'_>) -> fmt::Result {
         write!(f, "{:9}{:>6}{:>7}", "call", "ok", "silent")?;
         (1..=REFUSALS).try_for_each(|number| write!(f, "{number:>5}"))?;
-        for call in CALLS {
-            write!(f, "\n{call:9}{:>6}{:>7}", self.ok(call), self.silent(call))?;
-            (1..=REFUSALS).try_for_each(|number| write!(f, "{:>5}", self.refused(call, number)))?;
-        }
+        CALLS.iter().try_for_each(|call| self.write_replies(f, call))?;
         write!(f, "\n\n{:9}", "call")?;
         FATES.iter().try_for_each(|fate| write!(f, "{fate:>12}"))?;
-        for call in CALLS {
-            write!(f, "\n{call:9}")?;
-            FATES.iter().try_for_each(|fate| write!(f, "{:>12}", self.fate(call, fate)))?;
-        }
-        for fate in &FATES[3..] {
-            write!(f, "\n{fate} at writes {:?}", self.writes(fate))?;
-        }
+        CALLS.iter().try_for_each(|call| self.write_fates(f, call))?;
+        let cuts = &mut FATES[3..].iter();
+        cuts.try_for_each(|fate| write!(f, "\n{fate} at writes {:?}", self.writes(fate)))?;
         write!(f, "\n{} calls\n", self.calls())
+    }
+}
+
+impl Counts {
+    fn write_replies(&self, f: &mut fmt::Formatter<'_>, call: &str) -> fmt::Result {
+        write!(f, "\n{call:9}{:>6}{:>7}", self.ok(call), self.silent(call))?;
+        (1..=REFUSALS).try_for_each(|number| write!(f, "{:>5}", self.refused(call, number)))
+    }
+
+    fn write_fates(&self, f: &mut fmt::Formatter<'_>, call: &str) -> fmt::Result {
+        write!(f, "\n{call:9}")?;
+        FATES.iter().try_for_each(|fate| write!(f, "{:>12}", self.fate(call, fate)))
     }
 }

@@ -26,10 +26,26 @@ const TO_REPLICA: &[Kind] = &[Prepare, OpeningCopy, OpenCopy, Trim, Send, Note, 
 const AGREEING: &[Kind] = &[OpeningCopy, OpenCopy, Trim, Send, Note, Read];
 const COPIES: &[Kind] = &[OpeningCopy, OpenCopy];
 
-pub fn all_faults() -> Vec<Fault> {
+fn all_faults() -> Vec<Fault> {
     let groups =
         [shape(), marks(), names(), phases(), fates(), votes(), requests(), work(), receivers()];
     groups.into_iter().flatten().collect()
+}
+
+/// The faults that a scene can meet.
+pub fn faults_of(scene: &Scene) -> Vec<Fault> {
+    all_faults().into_iter().filter(|fault| fault.calls.contains(&scene.kind)).collect()
+}
+
+/// Faults of higher numbers come first, so that those of lower ones have the last word.
+pub fn with_faults(scene: &Scene, faults: &[&Fault]) -> Scene {
+    let mut faults = faults.to_vec();
+    faults.sort_by_key(|fault| std::cmp::Reverse(fault.number));
+    let mut scene = scene.clone();
+    for fault in faults {
+        (fault.make)(&mut scene);
+    }
+    scene
 }
 
 fn fault(number: u64, name: &'static str, calls: &'static [Kind], make: fn(&mut Scene)) -> Fault {

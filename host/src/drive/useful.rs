@@ -65,8 +65,10 @@ impl Useful<'_> {
         let Server { session, issued, acknowledged, .. } = *self.record;
         let over = session != self.cluster.records.register.session;
         let full = issued == self.cluster.shape.places;
-        let torn = acknowledged < issued && !self.used(|mark| mark == issued).is_empty();
-        random.chance(60) || (over && random.chance(4)) || ((full || torn) && random.chance(6))
+        let unfinished = acknowledged < issued && !self.used(|mark| mark == issued).is_empty();
+        random.chance(60)
+            || (over && random.chance(4))
+            || ((full || unfinished) && random.chance(6))
     }
 
     fn opening_call(&self, random: &mut Random) -> Call {

@@ -34,7 +34,10 @@ fn particular(driver: &mut Driver, random: &mut Random, scene: &Scene) {
         }
         Kind::OpeningCopy => joined(driver, scene),
         Kind::Trim => cut_each(driver, random, scene, 1..=3),
-        Kind::Issue => estimates(driver, scene),
+        Kind::Issue => {
+            estimates(driver, scene);
+            ahead(driver, scene);
+        }
         Kind::Send => {
             few_members(driver, scene);
             joined(driver, scene);
@@ -144,6 +147,16 @@ fn issue(driver: &mut Driver, scene: &Scene, low: &[usize], locks: Vec<u64>) {
     scene.cluster.locks.fill(3);
     low.iter().for_each(|place| scene.cluster.locks[SERVER * TABLE_MARKS + place] = 2);
     scene.request().locks = locks;
+    try_scene(driver, scene);
+}
+
+/// A client whose mark is issued and not acknowledged yet.
+fn ahead(driver: &mut Driver, scene: &Scene) {
+    let mut scene = scene.clone();
+    let server = &mut scene.cluster.records.servers[SERVER];
+    let issued = server.issued;
+    server.acknowledged = issued - 1;
+    scene.request().client_mark = issued;
     try_scene(driver, scene);
 }
 

@@ -22,3 +22,7 @@ pub mod script;
 pub mod vectors;
 
 pub mod compare;
+
+pub mod tries;
+
+pub mod drive;

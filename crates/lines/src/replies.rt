@@ -54,7 +54,7 @@ fn put_whole(out: &mut [u8], text: &[u8]) -> usize
 }
 
 // The number of each refusal in document 01's list.
-fn number_of(why: Refusal) -> u64
+pub fn number_of(why: Refusal) -> u64
     ensures { λ r. ⌜ r ≡ numberOf why ⌝ }
 {
     match why {

@@ -5,13 +5,11 @@ ghost use mathlib.Core.Path.{_≡_};
 ghost use Rattle.crc32.specs.Tables.{tablesOf};
 use crc32::Tables;
 use libc::STDIN_FILENO;
+use stored::print;
 
 mod answer;
-mod fates;
-mod hex;
 mod media;
 mod operation;
-mod print;
 mod records;
 
 // The longest line that is answered.

@@ -1,7 +1,7 @@
 // What a replica is asked to do, as a line says it.
 ghost use Prim.Native.Nat.{_≤_};
-use crate::hex;
 use storage::replica::Closing;
+use stored::hex;
 use text::line;
 use text::number;
 use text::number::Number;

@@ -6,8 +6,7 @@ use twin::cluster::{
 use twin::fate::{Fate, Left};
 use twin::locks::{lock_places, TABLE_MARKS};
 use twin::medium::{current, is_place, mark, place, place_at, put, Slot, SLOT_BYTES, WIPED};
-
-use crate::scene::*;
+use twin::tries::scene::*;
 
 const UNHEARD: [Fate; 3] = [Fate::Lost, Fate::AnswerLost, Fate::Cut(9, Left::Old)];
 

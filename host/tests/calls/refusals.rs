@@ -1,22 +1,11 @@
 //! Why a call is declined: for each call, every fault that it can meet, alone and with any others.
 //! The reply is the lowest number among the faults, and nothing changes.
 
-use crate::faults::{all_faults, Fault};
-use crate::scene::{all_scenes, Kind, Scene};
 use twin::cluster::{Answer, Message};
 use twin::fate::{Fate, Left};
 use twin::random::Random;
-
-/// Faults of higher numbers come first, so that those of lower ones have the last word.
-fn with_faults(scene: &Scene, faults: &[&Fault]) -> Scene {
-    let mut faults = faults.to_vec();
-    faults.sort_by_key(|fault| std::cmp::Reverse(fault.number));
-    let mut scene = scene.clone();
-    for fault in faults {
-        (fault.make)(&mut scene);
-    }
-    scene
-}
+use twin::tries::faults::{faults_of, with_faults, Fault};
+use twin::tries::scene::{all_scenes, Kind, Scene};
 
 /// The number that the scene's call is declined with; a declined call changes nothing.
 fn declined(scene: &Scene) -> Option<u64> {
@@ -24,10 +13,6 @@ fn declined(scene: &Scene) -> Option<u64> {
     let refusal = cluster.apply(&scene.call).err()?;
     assert!(cluster == scene.cluster, "{:?} changes something", scene.kind);
     Some(refusal.number())
-}
-
-fn faults_of(scene: &Scene) -> Vec<Fault> {
-    all_faults().into_iter().filter(|fault| fault.calls.contains(&scene.kind)).collect()
 }
 
 #[test]

@@ -1,13 +1,12 @@
 //! The guarantee between sessions, on long random lists of calls from fresh clusters: every fate, a
 //! cut at any write, old servers that go on talking.
 
-mod caller;
 mod history;
 
-use caller::Caller;
 use history::History;
 use twin::cluster::{Call, Cluster, Reply, Shape};
 use twin::random::Random;
+use twin::tries::caller::{self, Caller};
 
 const LISTS: u64 = 2_000;
 const CALLS: usize = 300;

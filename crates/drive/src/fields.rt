@@ -1,0 +1,43 @@
+// The numbers among a line's fields.
+use text::line;
+use text::number;
+use text::number::Number;
+
+// Whether the n fields behind the first are numbers.
+fn are_numbers(line: &[u8], n: usize) -> bool {
+    let mut rest = line;
+    let mut left = n;
+    while 0 < left {
+        let next = line::behind(rest);
+        rest = next;
+        let Number::Is(_) = number::decimal(line::first(rest)) else {
+            return false;
+        };
+        left -= 1;
+    }
+    true
+}
+
+// Whether a line has so many fields, and behind its first field so many numbers.
+pub fn fit(line: &[u8], fields: usize, numbers: usize) -> bool {
+    if line::count(line) != fields {
+        return false;
+    }
+    are_numbers(line, numbers)
+}
+
+// The number that field k is; 0 where it is none.
+pub fn at(line: &[u8], k: usize) -> u64 {
+    let Number::Is(v) = number::decimal(line::field(line, k)) else {
+        return 0;
+    };
+    v
+}
+
+// Whether a line's word is this one, and the line fits that word's form.
+pub fn is(word: &[u8], w: &[u8], line: &[u8], fields: usize, numbers: usize) -> bool {
+    if !check::same(word, w) {
+        return false;
+    }
+    fit(line, fields, numbers)
+}

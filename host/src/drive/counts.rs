@@ -1,0 +1,127 @@
+//! What a run meets: replies of each call, and fates.
+
+use std::collections::BTreeMap;
+use std::fmt;
+
+use super::texts::word;
+use crate::cluster::{Answer, Call, Reply};
+use crate::fate::{Fate, Left};
+
+pub const CALLS: [&str; 11] = [
+    "take", "prepare", "copy", "trim", "open", "issue", "send", "note", "read", "stop", "reassign",
+];
+
+pub const FATES: [&str; 6] = ["answered", "lost", "answer lost", "cut old", "cut new", "cut torn"];
+
+/// The numbers of refusals, from 1.
+pub const REFUSALS: u64 = 22;
+
+#[derive(Default)]
+pub struct Counts {
+    /// By call and reply: 0 for ok, the number of a refusal.
+    replies: BTreeMap<(&'static str, u64), u64>,
+    silent: BTreeMap<&'static str, u64>,
+    /// By call, fate and write (0 unless cut), of calls that are not declined.
+    fates: BTreeMap<(&'static str, &'static str, u64), u64>,
+}
+
+impl Counts {
+    pub(super) fn add(&mut self, call: &Call, reply: &Reply) {
+        let word = word(call);
+        match reply {
+            Ok(Answer::Silent) => *self.silent.entry(word).or_default() += 1,
+            Ok(_) => *self.replies.entry((word, 0)).or_default() += 1,
+            Err(refusal) => *self.replies.entry((word, refusal.number())).or_default() += 1,
+        }
+        if let (Some(fate), Ok(_)) = (fate_of(call), reply) {
+            let (name, write) = fate_name(fate);
+            *self.fates.entry((word, name, write)).or_default() += 1;
+        }
+    }
+
+    pub fn ok(&self, call: &str) -> u64 {
+        self.refused(call, 0)
+    }
+
+    pub fn silent(&self, call: &str) -> u64 {
+        self.silent.get(call).copied().unwrap_or(0)
+    }
+
+    /// How often the call was declined with this number.
+    pub fn refused(&self, call: &str, number: u64) -> u64 {
+        let counted =
+            self.replies.iter().filter(|((word, met), _)| (*word, *met) == (call, number));
+        counted.map(|(_, count)| count).sum()
+    }
+
+    /// How often the call, not declined, had this fate.
+    pub fn fate(&self, call: &str, fate: &str) -> u64 {
+        let counted =
+            self.fates.iter().filter(|((word, name, _), _)| (*word, *name) == (call, fate));
+        counted.map(|(_, count)| count).sum()
+    }
+
+    /// The writes at which messages that were not declined were cut so.
+    pub fn writes(&self, fate: &str) -> Vec<u64> {
+        let cut = self.fates.keys().filter(|(_, name, _)| *name == fate);
+        let mut writes: Vec<u64> = cut.map(|(_, _, write)| *write).collect();
+        writes.sort_unstable();
+        writes.dedup();
+        writes
+    }
+
+    pub fn calls(&self) -> u64 {
+        self.replies.values().chain(self.silent.values()).sum()
+    }
+}
+
+fn fate_of(call: &Call) -> Option<Fate> {
+    match call {
+        Call::Take { fate, .. } | Call::Open { fate, .. } => Some(*fate),
+        Call::Prepare { message, .. }
+        | Call::Copy { message, .. }
+        | Call::Trim { message, .. }
+        | Call::Send { message, .. }
+        | Call::Note { message, .. }
+        | Call::Read { message, .. } => Some(message.fate),
+        Call::Issue { .. } | Call::Stop { .. } | Call::Reassign => None,
+    }
+}
+
+fn fate_name(fate: Fate) -> (&'static str, u64) {
+    match fate {
+        Fate::Answered => ("answered", 0),
+        Fate::Lost => ("lost", 0),
+        Fate::AnswerLost => ("answer lost", 0),
+        Fate::Cut(write, Left::Old) => ("cut old", write),
+        Fate::Cut(write, Left::New) => ("cut new", write),
+        Fate::Cut(write, Left::Torn) => ("cut torn", write),
+    }
+}
+
+/// A table of replies by call, one of fates by call, and the writes that were cut.
+impl fmt::Display for Counts {
+    fn fmt(&self, f: &mut fmt::Formatter<'_>) -> fmt::Result {
+        write!(f, "{:9}{:>6}{:>7}", "call", "ok", "silent")?;
+        (1..=REFUSALS).try_for_each(|number| write!(f, "{number:>5}"))?;
+        CALLS.iter().try_for_each(|call| self.write_replies(f, call))?;
+        write!(f, "\n\n{:9}", "call")?;
+        FATES.iter().try_for_each(|fate| write!(f, "{fate:>12}"))?;
+        CALLS.iter().try_for_each(|call| self.write_fates(f, call))?;
+        let cuts = &mut FATES[3..].iter();
+        cuts.try_for_each(|fate| write!(f, "\n{fate} at writes {:?}", self.writes(fate)))?;
+        write!(f, "\n{} calls\n", self.calls())
+    }
+}
+
+impl Counts {
+    fn write_replies(&self, f: &mut fmt::Formatter<'_>, call: &str) -> fmt::Result {
+        write!(f, "\n{call:9}{:>6}{:>7}", self.ok(call), self.silent(call))?;
+        (1..=REFUSALS).try_for_each(|number| write!(f, "{:>5}", self.refused(call, number)))
+    }
+
+    fn write_fates(&self, f: &mut fmt::Formatter<'_>, call: &str) -> fmt::Result {
+        write!(f, "\n{call:9}")?;
+        FATES.iter().try_for_each(|fate| write!(f, "{:>12}", self.fate(call, fate)))
+    }
+}

@@ -1,0 +1,78 @@
+//! Lines that make one state of another: only what differs is handed in.
+
+use super::sums::{entry_numbers, server_numbers, standing_number};
+use super::texts::line;
+use crate::cluster::{Entry, Records, Server};
+use crate::hex;
+use crate::medium::PLACE_BYTES;
+
+/// Register and servers.
+pub fn record_lines(old: &Records, new: &Records) -> Vec<String> {
+    let (held, wanted) = (&old.register, &new.register);
+    let mut lines = Vec::new();
+    if (held.session, held.generation) != (wanted.session, wanted.generation) {
+        lines.push(line("register", &[wanted.session, u64::from(wanted.generation)]));
+    }
+    lines.extend(entry_lines("entry", &[], &held.entries, &wanted.entries));
+    for (number, (old, new)) in (0..).zip(old.servers.iter().zip(&new.servers)) {
+        lines.extend(server_lines(number, old, new));
+    }
+    lines
+}
+
+fn server_lines(number: u64, old: &Server, new: &Server) -> Vec<String> {
+    let mut lines = Vec::new();
+    if server_numbers(old) != server_numbers(new) {
+        let [phase, session, generation, marks @ ..] = server_numbers(new);
+        let [starting, issued, acknowledged] = marks;
+        let fields = [number, phase, session, generation, starting, issued, acknowledged];
+        lines.push(line("server", &fields));
+    }
+    lines.extend(entry_lines("handed", &[number], &old.entries, &new.entries));
+    for (replica, standing) in new.standings.into_iter().enumerate() {
+        let mark = new.marks[replica];
+        if (old.standings[replica], old.marks[replica]) != (standing, mark) {
+            let fields = [number, replica as u64, standing_number(standing), mark];
+            lines.push(line("replica", &fields));
+        }
+    }
+    if old.record != new.record {
+        lines.push(format!("held\t{number}\t{}", hex::encode(&new.record)));
+    }
+    lines
+}
+
+fn entry_lines(word: &str, server: &[u64], old: &[Entry], new: &[Entry]) -> Vec<String> {
+    let entries = (0..).zip(old.iter().zip(new)).filter(|(_, (old, new))| old != new);
+    let fields = |replica: u64, entry: &Entry| [server, &[replica], &entry_numbers(entry)].concat();
+    entries.map(|(replica, (_, entry))| line(word, &fields(replica, entry))).collect()
+}
+
+/// A line for each piece of 64 bytes that has a difference, from its first to its last one.
+pub fn media_lines(old: &[u8], new: &[u8]) -> Vec<String> {
+    let mut lines = Vec::new();
+    for start in (0..new.len()).step_by(PLACE_BYTES) {
+        let end = new.len().min(start + PLACE_BYTES);
+        let differs = |at: &usize| old[*at] != new[*at];
+        if let (Some(first), Some(last)) = ((start..end).find(differs), (start..end).rfind(differs))
+        {
+            lines.push(format!("media\t{first}\t{}", hex::encode(&new[first..=last])));
+        }
+    }
+    lines
+}
+
+/// A line for each run of equal marks that has a difference.
+pub fn table_lines(old: &[u64], new: &[u64]) -> Vec<String> {
+    let mut lines = Vec::new();
+    let mut at = 0;
+    while at < new.len() {
+        let mark = new[at];
+        let count = new[at..].iter().take_while(|&&other| other == mark).count();
+        if old[at..at + count] != new[at..at + count] {
+            lines.push(line("table", &[at as u64, count as u64, mark]));
+        }
+        at += count;
+    }
+    lines
+}

@@ -1,0 +1,59 @@
+//! Check sums of all state.
+
+use crate::cluster::{Cluster, Entry, Phase, Records, Server, Standing};
+use crate::crc::crc32;
+
+/// Of the records, the media and the lock tables.
+pub fn sums(cluster: &Cluster) -> [u32; 3] {
+    let tables: Vec<u8> = cluster.locks.iter().flat_map(|mark| mark.to_be_bytes()).collect();
+    [crc32(&record_bytes(&cluster.records)), crc32(&cluster.media), crc32(&tables)]
+}
+
+/// Register, then servers, as big-endian numbers of eight bytes.
+fn record_bytes(records: &Records) -> Vec<u8> {
+    let register = &records.register;
+    let mut bytes = Vec::new();
+    put(&mut bytes, &[register.session, u64::from(register.generation)]);
+    register.entries.iter().for_each(|entry| put(&mut bytes, &entry_numbers(entry)));
+    records.servers.iter().for_each(|server| put_server(&mut bytes, server));
+    bytes
+}
+
+/// The 64 bytes of the issued record stand behind the numbers as they are.
+fn put_server(bytes: &mut Vec<u8>, server: &Server) {
+    put(bytes, &server_numbers(server));
+    server.entries.iter().for_each(|entry| put(bytes, &entry_numbers(entry)));
+    for (standing, mark) in server.standings.iter().zip(server.marks) {
+        put(bytes, &[standing_number(*standing), mark]);
+    }
+    bytes.extend_from_slice(&server.record);
+}
+
+fn put(bytes: &mut Vec<u8>, numbers: &[u64]) {
+    bytes.extend(numbers.iter().flat_map(|number| number.to_be_bytes()));
+}
+
+/// Session; 0 if unresolved, else 1; closing mark.
+pub fn entry_numbers(entry: &Entry) -> [u64; 3] {
+    [entry.session, u64::from(entry.closing.is_some()), entry.closing.unwrap_or(0)]
+}
+
+/// Phase, session, generation, starting, issued and acknowledged mark.
+pub fn server_numbers(server: &Server) -> [u64; 6] {
+    let phase = match server.phase {
+        Phase::Idle => 0,
+        Phase::Opening => 1,
+        Phase::Open => 2,
+    };
+    let generation = u64::from(server.generation);
+    let Server { session, starting, issued, acknowledged, .. } = *server;
+    [phase, session, generation, starting, issued, acknowledged]
+}
+
+pub fn standing_number(standing: Standing) -> u64 {
+    match standing {
+        Standing::Out => 0,
+        Standing::In => 1,
+        Standing::Dropped => 2,
+    }
+}

@@ -1,0 +1,75 @@
+//! The texts of calls and replies.
+
+use crate::cluster::{Answer, Call, Refusal, Reply, Request};
+use crate::fate::{Fate, Left};
+use crate::hex;
+
+/// A word and its numbers.
+pub fn line(word: &str, numbers: &[u64]) -> String {
+    numbers.iter().fold(word.to_string(), |line, number| format!("{line}\t{number}"))
+}
+
+/// The line of a call. What lies beside it has lines of its own.
+pub fn call_line(call: &Call) -> String {
+    let numbers = match call {
+        Call::Take { server, fate } | Call::Open { server, fate } => with_fate(&[*server], *fate),
+        Call::Prepare { server, replica, message }
+        | Call::Trim { server, replica, message }
+        | Call::Send { server, replica, message }
+        | Call::Note { server, replica, message } => with_fate(&[*server, *replica], message.fate),
+        Call::Copy { server, from, to, message } => with_fate(&[*server, *from, *to], message.fate),
+        Call::Read { server, replica, id, message } => {
+            with_fate(&[*server, *replica, *id], message.fate)
+        }
+        Call::Issue { server, request } => request_numbers(*server, request),
+        Call::Stop { server } => vec![*server],
+        Call::Reassign => Vec::new(),
+    };
+    line(word(call), &numbers)
+}
+
+pub fn word(call: &Call) -> &'static str {
+    match call {
+        Call::Take { .. } => "take",
+        Call::Prepare { .. } => "prepare",
+        Call::Copy { .. } => "copy",
+        Call::Trim { .. } => "trim",
+        Call::Open { .. } => "open",
+        Call::Issue { .. } => "issue",
+        Call::Send { .. } => "send",
+        Call::Note { .. } => "note",
+        Call::Read { .. } => "read",
+        Call::Stop { .. } => "stop",
+        Call::Reassign => "reassign",
+    }
+}
+
+fn request_numbers(server: u64, request: &Request) -> Vec<u64> {
+    let Request { client, generation, partition, sequence, header, .. } = *request;
+    let words = [client, generation, partition, sequence, header];
+    [server, request.client_mark].into_iter().chain(words.map(u64::from)).collect()
+}
+
+fn with_fate(numbers: &[u64], fate: Fate) -> Vec<u64> {
+    let fate = match fate {
+        Fate::Answered => [0, 0, 0],
+        Fate::Lost => [1, 0, 0],
+        Fate::AnswerLost => [2, 0, 0],
+        Fate::Cut(write, Left::Old) => [3, write, 0],
+        Fate::Cut(write, Left::New) => [3, write, 1],
+        Fate::Cut(write, Left::Torn) => [3, write, 2],
+    };
+    numbers.iter().copied().chain(fate).collect()
+}
+
+/// What a call prints before the check sums.
+pub fn reply_text(reply: &Reply) -> String {
+    match reply {
+        Ok(Answer::Nothing) => "ok".to_string(),
+        Ok(Answer::Number(value)) => format!("ok\t{value}"),
+        Ok(Answer::Bytes(bytes)) => format!("ok\t{}", hex::encode(bytes)),
+        Ok(Answer::Silent) => "silent".to_string(),
+        Err(Refusal::Locked { lock, estimate }) => format!("no\t15\t{lock}\t{estimate}"),
+        Err(refusal) => format!("no\t{}", refusal.number()),
+    }
+}

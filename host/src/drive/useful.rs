@@ -1,0 +1,182 @@
+//! Calls that bring a cluster on: recoveries to their end, logs filled, now and then a handover
+//! while the old server goes on talking.
+
+use crate::cluster::{Call, Cluster, Phase, Request, Server, Standing};
+use crate::random::Random;
+use crate::tries::caller::Caller;
+use crate::votes;
+
+/// The next call of a server that knows what it wants; one in some is drawn at random.
+pub fn next_call(random: &mut Random, caller: &Caller, cluster: &Cluster) -> Call {
+    if random.chance(12) {
+        return caller.next_call(random, cluster);
+    }
+    let server = pick_server(random, cluster);
+    let record = &cluster.records.servers[server as usize];
+    let useful = Useful { caller, cluster, server, record };
+    match record.phase {
+        Phase::Idle => Call::Take { server, fate: caller.register_fate(random) },
+        _ if useful.ends(random) => Call::Stop { server },
+        Phase::Opening => useful.opening_call(random),
+        Phase::Open => useful.open_call(random),
+    }
+}
+
+/// The server of the newest session, or now and then another: one that is idle takes over.
+fn pick_server(random: &mut Random, cluster: &Cluster) -> u64 {
+    let record = |server: u64| &cluster.records.servers[server as usize];
+    let newest = (0..4).max_by_key(|&server| record(server).session).expect("four servers");
+    let other = random.below(4);
+    let rate = match record(other).phase {
+        _ if record(newest).phase == Phase::Idle => 1,
+        Phase::Idle => 60,
+        _ => 5,
+    };
+    if random.chance(rate) {
+        other
+    } else {
+        newest
+    }
+}
+
+struct Useful<'a> {
+    caller: &'a Caller,
+    cluster: &'a Cluster,
+    server: u64,
+    record: &'a Server,
+}
+
+impl Useful<'_> {
+    /// The replicas below R whose standing and recorded mark are such.
+    fn replicas(&self, such: impl Fn(Standing, u64) -> bool) -> Vec<u64> {
+        let all = 0..self.cluster.shape.replicas;
+        all.filter(|&i| such(self.record.standings[i as usize], self.record.marks[i as usize]))
+            .collect()
+    }
+
+    /// Those that are known or members, and whose marks are such.
+    fn used(&self, such: impl Fn(u64) -> bool) -> Vec<u64> {
+        self.replicas(|standing, mark| standing == Standing::In && such(mark))
+    }
+
+    /// Servers whose session is over end sooner or later, also those of a full log; some end while
+    /// a record stands on a minority.
+    fn ends(&self, random: &mut Random) -> bool {
+        let Server { session, issued, acknowledged, .. } = *self.record;
+        let over = session != self.cluster.records.register.session;
+        let full = issued == self.cluster.shape.places;
+        let unfinished = acknowledged < issued && !self.used(|mark| mark == issued).is_empty();
+        random.chance(60)
+            || (over && random.chance(4))
+            || ((full || unfinished) && random.chance(6))
+    }
+
+    fn opening_call(&self, random: &mut Random) -> Call {
+        let absent = self.replicas(|standing, _| standing != Standing::In);
+        let quorum = votes::quorum(self.cluster.shape.replicas as usize);
+        let enough = self.used(|_| true).len() >= quorum;
+        if !absent.is_empty() && (!enough || random.chance(2)) {
+            return self.prepare(random, &absent);
+        }
+        let known = self.known_marks();
+        let Some(mark) = votes::decided(&known) else {
+            // Nothing is decided: lift those behind to the highest.
+            let highest = known.iter().flatten().copied().max().unwrap_or(0);
+            return self.copy_up(random, highest, &absent);
+        };
+        let (above, at) = (self.used(|other| other > mark), self.used(|other| other == mark));
+        if !above.is_empty() && !random.chance(4) {
+            return self.trim(random, &above);
+        }
+        if at.len() >= quorum && !random.chance(4) {
+            let fate = self.caller.register_fate(random);
+            return Call::Open { server: self.server, fate };
+        }
+        self.copy_up(random, mark, &absent)
+    }
+
+    fn known_marks(&self) -> Vec<Option<u64>> {
+        let replicas = 0..self.cluster.shape.replicas as usize;
+        let mark =
+            |i: usize| (self.record.standings[i] == Standing::In).then_some(self.record.marks[i]);
+        replicas.map(mark).collect()
+    }
+
+    /// A member that lacks just the issued record gets it; one further behind is copied to. What
+    /// is acknowledged is read and noted, then more is issued.
+    fn open_call(&self, random: &mut Random) -> Call {
+        let Server { issued, acknowledged, .. } = *self.record;
+        let full = issued == self.cluster.shape.places;
+        if random.chance(if full && acknowledged == issued { 2 } else { 6 }) {
+            return self.look(random);
+        }
+        let behind = self.used(|mark| mark + 1 == issued);
+        if !behind.is_empty() && (acknowledged < issued || random.chance(2)) {
+            let (server, replica) = (self.server, *random.pick(&behind));
+            return Call::Send { server, replica, message: self.caller.message(random) };
+        }
+        if acknowledged < issued || random.chance(4) {
+            return self.copy_up(random, issued, &[]);
+        }
+        Call::Issue { server: self.server, request: self.request(random) }
+    }
+
+    /// Reads or notes.
+    fn look(&self, random: &mut Random) -> Call {
+        let members = self.used(|_| true);
+        let (server, message) = (self.server, self.caller.message(random));
+        match members.as_slice() {
+            [] => Call::Stop { server },
+            members if random.chance(2) => {
+                Call::Note { server, replica: *random.pick(members), message }
+            }
+            members => {
+                let id = 1 + random.below(self.record.acknowledged + 1);
+                Call::Read { server, replica: *random.pick(members), id, message }
+            }
+        }
+    }
+
+    fn prepare(&self, random: &mut Random, replicas: &[u64]) -> Call {
+        let (server, replica) = (self.server, *random.pick(replicas));
+        Call::Prepare { server, replica, message: self.caller.message(random) }
+    }
+
+    fn trim(&self, random: &mut Random, replicas: &[u64]) -> Call {
+        let (server, replica) = (self.server, *random.pick(replicas));
+        Call::Trim { server, replica, message: self.caller.message(random) }
+    }
+
+    /// A copy from one at the mark or above to one below it; where there are not both, another
+    /// replica is prepared, or the server gives up.
+    fn copy_up(&self, random: &mut Random, mark: u64, absent: &[u64]) -> Call {
+        let server = self.server;
+        let (from, to) = (self.used(|other| other >= mark), self.used(|other| other < mark));
+        if from.is_empty() || to.is_empty() {
+            return match absent {
+                [] => Call::Stop { server },
+                absent => self.prepare(random, absent),
+            };
+        }
+        let (from, to) = (*random.pick(&from), *random.pick(&to));
+        Call::Copy { server, from, to, message: self.caller.message(random) }
+    }
+
+    /// Mostly a client that has read all, with few locks, so that locks are granted and refused.
+    fn request(&self, random: &mut Random) -> Request {
+        let behind = *random.pick(&[0, 0, 0, 0, 1, 2]);
+        let length = random.below(29) as usize;
+        let data = if random.chance(3) { random.bytes(length) } else { Vec::new() };
+        let locks = if random.chance(2) { random.below(5) } else { 0 };
+        Request {
+            client_mark: self.record.acknowledged.saturating_sub(behind),
+            client: random.word(),
+            generation: self.record.generation,
+            partition: random.below(4) as u32,
+            sequence: random.below(9) as u32,
+            header: random.word(),
+            data,
+            locks: (0..locks).map(|_| random.below(40)).collect(),
+        }
+    }
+}

@@ -1,0 +1,172 @@
+//! Draws calls that get somewhere: mostly what the server's phase allows, with fates of every kind.
+
+use crate::cluster::{Call, Cluster, Message, Phase, Request, Server, Standing};
+use crate::fate::{Fate, Left};
+use crate::medium::{Slot, PLACE_BYTES};
+use crate::random::Random;
+
+/// How rough a list of calls is.
+pub struct Caller {
+    servers: u64,
+    /// One message in this many is not answered.
+    trouble: u64,
+}
+
+impl Caller {
+    pub fn new(random: &mut Random) -> Caller {
+        Caller { servers: 1 + random.below(4), trouble: *random.pick(&[3, 6, 12, 30]) }
+    }
+
+    pub fn next_call(&self, random: &mut Random, cluster: &Cluster) -> Call {
+        let server = self.draw_server(random, cluster);
+        let record = &cluster.records.servers[server as usize];
+        let phase = match random.below(20) {
+            0 => *random.pick(&[Phase::Idle, Phase::Opening, Phase::Open]),
+            _ => record.phase,
+        };
+        match phase {
+            Phase::Idle => Call::Take { server, fate: self.register_fate(random) },
+            Phase::Opening => self.opening_call(random, cluster, server),
+            Phase::Open => self.open_call(random, cluster, server),
+        }
+    }
+
+    /// Mostly the server of the newest session, so that sessions get somewhere; the others
+    /// interfere.
+    fn draw_server(&self, random: &mut Random, cluster: &Cluster) -> u64 {
+        let session = |&server: &u64| cluster.records.servers[server as usize].session;
+        let newest = (0..self.servers).max_by_key(session);
+        match newest {
+            Some(server) if !random.chance(6) => server,
+            _ => random.below(self.servers),
+        }
+    }
+
+    fn opening_call(&self, random: &mut Random, cluster: &Cluster, server: u64) -> Call {
+        let message = self.message(random);
+        match random.below(16) {
+            0..=5 => Call::Prepare { server, replica: draw_replica(random, cluster), message },
+            6..=9 => self.copy(random, cluster, server),
+            10 | 11 => {
+                Call::Trim { server, replica: draw_usable(random, cluster, server), message }
+            }
+            12..=14 => Call::Open { server, fate: self.register_fate(random) },
+            _ => self.rare_call(random, server),
+        }
+    }
+
+    fn open_call(&self, random: &mut Random, cluster: &Cluster, server: u64) -> Call {
+        let record = &cluster.records.servers[server as usize];
+        let replica = draw_usable(random, cluster, server);
+        let message = self.message(random);
+        match random.below(20) {
+            0..=5 => Call::Issue { server, request: draw_request(random, record) },
+            6..=14 => Call::Send { server, replica, message },
+            15 | 16 => self.copy(random, cluster, server),
+            17 => Call::Note { server, replica, message },
+            18 => {
+                let id = random.below(cluster.shape.places + 2);
+                Call::Read { server, replica, id, message }
+            }
+            _ => self.rare_call(random, server),
+        }
+    }
+
+    fn copy(&self, random: &mut Random, cluster: &Cluster, server: u64) -> Call {
+        let [from, to] = [(); 2].map(|_| draw_usable(random, cluster, server));
+        Call::Copy { server, from, to, message: self.message(random) }
+    }
+
+    fn rare_call(&self, random: &mut Random, server: u64) -> Call {
+        match random.below(6) {
+            0 => Call::Reassign,
+            1 => Call::Stop { server: random.below(5) },
+            2 => Call::Take { server: random.below(5), fate: Fate::Cut(1, Left::New) },
+            _ => Call::Stop { server },
+        }
+    }
+
+    pub fn register_fate(&self, random: &mut Random) -> Fate {
+        match random.below(2 * self.trouble) {
+            0 => Fate::Lost,
+            1 => Fate::AnswerLost,
+            _ => Fate::Answered,
+        }
+    }
+
+    pub fn message(&self, random: &mut Random) -> Message {
+        if !random.chance(self.trouble) {
+            return Message::new(Fate::Answered);
+        }
+        let write = random.below(30) % 8;
+        let left = *random.pick(&[Left::Old, Left::New, Left::Torn]);
+        let cut = Fate::Cut(write, left);
+        let fate = *random.pick(&[Fate::Lost, Fate::AnswerLost, cut, cut, cut]);
+        Message { fate, given: draw_given(random) }
+    }
+}
+
+/// Whether the call's message is cut.
+pub fn is_cut(call: &Call) -> bool {
+    match call {
+        Call::Prepare { message, .. }
+        | Call::Copy { message, .. }
+        | Call::Trim { message, .. }
+        | Call::Send { message, .. }
+        | Call::Note { message, .. }
+        | Call::Read { message, .. } => matches!(message.fate, Fate::Cut(..)),
+        _ => false,
+    }
+}
+
+/// Any replica, now and then one that is not there.
+fn draw_replica(random: &mut Random, cluster: &Cluster) -> u64 {
+    let beyond = u64::from(random.chance(50));
+    random.below(cluster.shape.replicas + beyond)
+}
+
+/// Mostly a replica that the server may use.
+fn draw_usable(random: &mut Random, cluster: &Cluster, server: u64) -> u64 {
+    let standings = &cluster.records.servers[server as usize].standings;
+    let usable: Vec<u64> =
+        (0..cluster.shape.replicas).filter(|&i| standings[i as usize] == Standing::In).collect();
+    if usable.is_empty() || random.chance(5) {
+        draw_replica(random, cluster)
+    } else {
+        *random.pick(&usable)
+    }
+}
+
+/// Few locks and clients that have read most of the log, so that locks collide and are still
+/// granted.
+fn draw_request(random: &mut Random, record: &Server) -> Request {
+    let behind = *random.pick(&[0, 0, 0, 1, 2]);
+    let ahead = u64::from(random.chance(40));
+    let length = if random.chance(60) { 29 } else { 1 };
+    let locks = match random.below(3) {
+        0 => 0,
+        _ => random.below(4) + u64::from(random.chance(20)) * 2,
+    };
+    Request {
+        client_mark: record.acknowledged.saturating_sub(behind) + ahead,
+        generation: record.generation + u32::from(random.chance(40)),
+        header: random.below(3) as u32,
+        data: random.bytes(length),
+        locks: (0..locks).map(|_| random.below(6)).collect(),
+        ..Request::default()
+    }
+}
+
+/// Mostly bytes that pass as nothing; a slot that passes is declined.
+fn draw_given(random: &mut Random) -> [u8; PLACE_BYTES] {
+    let mut given = [0; PLACE_BYTES];
+    match random.below(8) {
+        0 => {
+            let slot = Slot { promise: random.below(9), low: 0, local: 0 };
+            given[..32].copy_from_slice(&slot.encode());
+        }
+        1..=3 => given.copy_from_slice(&random.bytes(PLACE_BYTES)),
+        _ => {}
+    }
+    given
+}

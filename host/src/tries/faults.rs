@@ -1,0 +1,239 @@
+//! Faults, each with the number that it makes a call decline with.
+
+use crate::cluster::{Message, Phase, Standing};
+use crate::fate::{Fate, Left};
+use crate::medium::{mark, place_at, put, PLACE_BYTES, SLOTS_BYTES, WIPED};
+
+use super::scene::Kind::{self, *};
+use super::scene::{
+    record_bytes, set_place, set_promise, Scene, PLACES, REPLICA, SERVER, SESSION, SOURCE,
+};
+
+pub struct Fault {
+    pub number: u64,
+    pub name: &'static str,
+    /// The calls that meet it.
+    pub calls: &'static [Kind],
+    pub make: fn(&mut Scene),
+}
+
+const EVERY: &[Kind] =
+    &[Take, Prepare, OpeningCopy, OpenCopy, Trim, Open, Issue, Send, Note, Read, Stop, Reassign];
+const BY_SERVER: &[Kind] =
+    &[Take, Prepare, OpeningCopy, OpenCopy, Trim, Open, Issue, Send, Note, Read, Stop];
+const BUSY: &[Kind] = &[Prepare, OpeningCopy, OpenCopy, Trim, Open, Issue, Send, Note, Read];
+const TO_REPLICA: &[Kind] = &[Prepare, OpeningCopy, OpenCopy, Trim, Send, Note, Read];
+const AGREEING: &[Kind] = &[OpeningCopy, OpenCopy, Trim, Send, Note, Read];
+const COPIES: &[Kind] = &[OpeningCopy, OpenCopy];
+
+fn all_faults() -> Vec<Fault> {
+    let groups =
+        [shape(), marks(), names(), phases(), fates(), votes(), requests(), work(), receivers()];
+    groups.into_iter().flatten().collect()
+}
+
+/// The faults that a scene can meet.
+pub fn faults_of(scene: &Scene) -> Vec<Fault> {
+    all_faults().into_iter().filter(|fault| fault.calls.contains(&scene.kind)).collect()
+}
+
+/// Faults of higher numbers come first, so that those of lower ones have the last word.
+pub fn with_faults(scene: &Scene, faults: &[&Fault]) -> Scene {
+    let mut faults = faults.to_vec();
+    faults.sort_by_key(|fault| std::cmp::Reverse(fault.number));
+    let mut scene = scene.clone();
+    for fault in faults {
+        (fault.make)(&mut scene);
+    }
+    scene
+}
+
+fn fault(number: u64, name: &'static str, calls: &'static [Kind], make: fn(&mut Scene)) -> Fault {
+    Fault { number, name, calls, make }
+}
+
+fn shape() -> Vec<Fault> {
+    vec![
+        fault(1, "no replicas", EVERY, |scene| scene.cluster.shape.replicas = 0),
+        fault(1, "two replicas", EVERY, |scene| scene.cluster.shape.replicas = 2),
+        fault(1, "nine replicas", EVERY, |scene| scene.cluster.shape.replicas = 9),
+        fault(1, "no places", EVERY, |scene| scene.cluster.shape.places = 0),
+        fault(1, "1,001 places", EVERY, |scene| scene.cluster.shape.places = 1001),
+        fault(1, "places at the top", EVERY, |scene| scene.cluster.shape.places = u64::MAX),
+        fault(1, "long media", EVERY, |scene| scene.cluster.media.push(0)),
+        fault(1, "short media", EVERY, |scene| scene.cluster.media.truncate(100)),
+        fault(1, "no lock tables", EVERY, |scene| scene.cluster.locks.clear()),
+        fault(1, "long lock tables", EVERY, |scene| scene.cluster.locks.push(0)),
+    ]
+}
+
+/// Marks above N, also of servers that do not make the call.
+fn marks() -> Vec<Fault> {
+    vec![
+        fault(2, "closing mark of the register", EVERY, |scene| {
+            scene.cluster.records.register.entries[2].closing = Some(PLACES + 1)
+        }),
+        fault(2, "closing mark handed over", EVERY, |scene| {
+            scene.cluster.records.servers[3].entries[0].closing = Some(u64::MAX)
+        }),
+        fault(2, "starting mark", EVERY, |scene| {
+            scene.cluster.records.servers[0].starting = PLACES + 1
+        }),
+        fault(2, "issued", EVERY, |scene| scene.cluster.records.servers[2].issued = u64::MAX),
+        fault(2, "acknowledged", EVERY, |scene| {
+            scene.cluster.records.servers[SERVER].acknowledged = PLACES + 1
+        }),
+        fault(2, "recorded mark", EVERY, |scene| {
+            scene.cluster.records.servers[SERVER].marks[1] = u64::MAX
+        }),
+    ]
+}
+
+fn names() -> Vec<Fault> {
+    vec![
+        fault(3, "server 4", BY_SERVER, |scene| scene.set_server(4)),
+        fault(3, "server at the top", BY_SERVER, |scene| scene.set_server(u64::MAX)),
+        fault(4, "replica R", TO_REPLICA, |scene| scene.set_replica(3)),
+        fault(4, "replica at the top", TO_REPLICA, |scene| scene.set_replica(u64::MAX)),
+        fault(4, "copy from replica R", COPIES, |scene| scene.set_source(3)),
+        fault(4, "copy names one twice", COPIES, |scene| scene.set_source(REPLICA as u64)),
+    ]
+}
+
+fn phases() -> Vec<Fault> {
+    vec![
+        fault(5, "idle", BUSY, |scene| set_phase(scene, Phase::Idle)),
+        fault(5, "opening", &[Take, Issue, Send, Note, Read], |scene| {
+            set_phase(scene, Phase::Opening)
+        }),
+        fault(5, "open", &[Take, Prepare, Trim, Open], |scene| set_phase(scene, Phase::Open)),
+    ]
+}
+
+fn set_phase(scene: &mut Scene, phase: Phase) {
+    scene.cluster.records.servers[SERVER].phase = phase;
+}
+
+fn fates() -> Vec<Fault> {
+    vec![
+        fault(6, "cut register message", &[Take, Open], |scene| {
+            scene.set_message(Message::new(Fate::Cut(1, Left::New)))
+        }),
+        fault(6, "cut at write 0", TO_REPLICA, |scene| {
+            scene.set_message(Message::new(Fate::Cut(0, Left::Old)))
+        }),
+        fault(6, "torn bytes pass as a slot", TO_REPLICA, |scene| {
+            let mut medium = [0; SLOTS_BYTES];
+            set_promise(&mut medium, 7);
+            tear(scene, 1, medium)
+        }),
+        fault(6, "torn bytes pass as place N", TO_REPLICA, |scene| {
+            tear(scene, u64::MAX, record_bytes(PLACES))
+        }),
+    ]
+}
+
+fn tear(scene: &mut Scene, write: u64, given: [u8; PLACE_BYTES]) {
+    scene.set_message(Message { fate: Fate::Cut(write, Left::Torn), given });
+}
+
+fn votes() -> Vec<Fault> {
+    vec![
+        fault(7, "replica out", AGREEING, |scene| stand(scene, REPLICA, Standing::Out)),
+        fault(7, "replica dropped", AGREEING, |scene| stand(scene, REPLICA, Standing::Dropped)),
+        fault(7, "source out", COPIES, |scene| stand(scene, SOURCE, Standing::Out)),
+        fault(7, "source dropped", COPIES, |scene| stand(scene, SOURCE, Standing::Dropped)),
+        fault(8, "one absent", &[Trim, Open], |scene| {
+            set_marks(scene, [6, 4, 4]);
+            stand(scene, 1, Standing::Out)
+        }),
+        fault(8, "two dropped while opening", &[Trim, Open], |scene| {
+            stand(scene, 1, Standing::Dropped);
+            stand(scene, 2, Standing::Dropped)
+        }),
+        fault(9, "one clean", &[Open], |scene| set_marks(scene, [4, 6, 2])),
+    ]
+}
+
+fn set_marks(scene: &mut Scene, marks: [u64; 3]) {
+    scene.cluster.records.servers[SERVER].marks[..3].copy_from_slice(&marks);
+}
+
+fn stand(scene: &mut Scene, replica: usize, standing: Standing) {
+    scene.cluster.records.servers[SERVER].standings[replica] = standing;
+}
+
+fn requests() -> Vec<Fault> {
+    vec![
+        fault(10, "other generation", &[Issue], |scene| scene.request().generation += 1),
+        fault(11, "client ahead", &[Issue], |scene| scene.request().client_mark = PLACES + 1),
+        fault(12, "29 bytes", &[Issue], |scene| scene.request().data.push(0)),
+        fault(12, "five locks", &[Issue], |scene| scene.request().locks.push(9)),
+        fault(13, "unacknowledged", &[Issue], |scene| {
+            let server = &mut scene.cluster.records.servers[SERVER];
+            server.acknowledged = server.issued - 1;
+        }),
+        fault(14, "full", &[Issue], |scene| {
+            let server = &mut scene.cluster.records.servers[SERVER];
+            (server.issued, server.acknowledged) = (PLACES, PLACES);
+        }),
+        fault(15, "all locks at the client's mark", &[Issue], |scene| scene.cluster.locks.fill(3)),
+    ]
+}
+
+fn work() -> Vec<Fault> {
+    vec![
+        fault(16, "send to one behind", &[Send], |scene| {
+            scene.cluster.records.servers[SERVER].issued = 5
+        }),
+        fault(16, "send of nothing", &[Send], |scene| {
+            scene.cluster.records.servers[SERVER].issued = 0
+        }),
+        fault(16, "copy to an equal", COPIES, |scene| {
+            scene.cluster.records.servers[SERVER].marks[REPLICA] = 4
+        }),
+        fault(16, "trim at the mark", &[Trim], |scene| {
+            scene.cluster.records.servers[SERVER].marks[REPLICA] = 4
+        }),
+        fault(16, "read ID 0", &[Read], |scene| scene.set_read_id(0)),
+        fault(16, "read above the mark", &[Read], |scene| scene.set_read_id(5)),
+        fault(16, "read above acknowledged", &[Read], |scene| {
+            scene.cluster.records.servers[SERVER].acknowledged = 3
+        }),
+        fault(17, "source without slots", COPIES, |scene| damage_slots(scene.source())),
+        fault(17, "source with another promise", COPIES, |scene| {
+            set_promise(scene.source(), SESSION + 1)
+        }),
+        fault(17, "source with another mark", COPIES, |scene| set_place(scene.source(), 5)),
+    ]
+}
+
+/// What replica or register decline.
+fn receivers() -> Vec<Fault> {
+    vec![
+        fault(18, "no slots", TO_REPLICA, |scene| damage_slots(scene.medium())),
+        fault(19, "higher promise", TO_REPLICA, |scene| set_promise(scene.medium(), SESSION + 1)),
+        fault(19, "lower promise", AGREEING, |scene| set_promise(scene.medium(), SESSION - 1)),
+        fault(20, "higher mark", AGREEING, |scene| {
+            let above = mark(scene.medium()) + 1;
+            set_place(scene.medium(), above)
+        }),
+        fault(20, "lower mark", AGREEING, |scene| put(scene.medium(), place_at(1), &WIPED)),
+        fault(21, "session at its top", &[Take], |scene| {
+            scene.cluster.records.register.session = u64::MAX
+        }),
+        fault(21, "generation at its top", &[Reassign], |scene| {
+            scene.cluster.records.register.generation = u32::MAX
+        }),
+        fault(22, "newer session", &[Open], |scene| {
+            scene.cluster.records.register.session = SESSION + 1
+        }),
+        fault(22, "older session", &[Open], |scene| {
+            scene.cluster.records.register.session = SESSION - 1
+        }),
+    ]
+}
+
+fn damage_slots(medium: &mut [u8]) {
+    put(medium, 0, &[0; SLOTS_BYTES]);
+}

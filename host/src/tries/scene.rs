@@ -1,0 +1,185 @@
+//! For each call a state in which it is not declined.
+
+use crate::cluster::{Call, Cluster, Message, Phase, Request, Shape, Standing};
+use crate::fate::Fate;
+use crate::medium::{place_at, put, PlaceBytes, Record, Slot, SLOT_BYTES};
+
+pub const PLACES: u64 = 10;
+pub const SESSION: u64 = 5;
+pub const GENERATION: u32 = 2;
+
+/// The server that makes the call, the replica that gets its message, and the one that a copy
+/// reads.
+pub const SERVER: usize = 1;
+pub const REPLICA: usize = 0;
+pub const SOURCE: usize = 2;
+
+/// The calls, copy once for each phase.
+#[derive(Clone, Copy, Debug, PartialEq, Eq)]
+pub enum Kind {
+    Take,
+    Prepare,
+    OpeningCopy,
+    OpenCopy,
+    Trim,
+    Open,
+    Issue,
+    Send,
+    Note,
+    Read,
+    Stop,
+    Reassign,
+}
+
+/// A state and a call on it.
+#[derive(Clone)]
+pub struct Scene {
+    pub kind: Kind,
+    pub cluster: Cluster,
+    pub call: Call,
+}
+
+impl Scene {
+    pub fn medium(&mut self) -> &mut [u8] {
+        self.cluster.medium_mut(REPLICA)
+    }
+
+    pub fn source(&mut self) -> &mut [u8] {
+        self.cluster.medium_mut(SOURCE)
+    }
+
+    pub fn set_server(&mut self, number: u64) {
+        match &mut self.call {
+            Call::Reassign => {}
+            Call::Take { server, .. }
+            | Call::Prepare { server, .. }
+            | Call::Copy { server, .. }
+            | Call::Trim { server, .. }
+            | Call::Open { server, .. }
+            | Call::Issue { server, .. }
+            | Call::Send { server, .. }
+            | Call::Note { server, .. }
+            | Call::Read { server, .. }
+            | Call::Stop { server } => *server = number,
+        }
+    }
+
+    pub fn set_replica(&mut self, number: u64) {
+        match &mut self.call {
+            Call::Copy { to: replica, .. }
+            | Call::Prepare { replica, .. }
+            | Call::Trim { replica, .. }
+            | Call::Send { replica, .. }
+            | Call::Note { replica, .. }
+            | Call::Read { replica, .. } => *replica = number,
+            _ => {}
+        }
+    }
+
+    pub fn set_source(&mut self, number: u64) {
+        if let Call::Copy { from, .. } = &mut self.call {
+            *from = number;
+        }
+    }
+
+    pub fn set_read_id(&mut self, number: u64) {
+        if let Call::Read { id, .. } = &mut self.call {
+            *id = number;
+        }
+    }
+
+    pub fn set_message(&mut self, new: Message) {
+        match &mut self.call {
+            Call::Take { fate, .. } | Call::Open { fate, .. } => *fate = new.fate,
+            Call::Prepare { message, .. }
+            | Call::Copy { message, .. }
+            | Call::Trim { message, .. }
+            | Call::Send { message, .. }
+            | Call::Note { message, .. }
+            | Call::Read { message, .. } => *message = new,
+            _ => {}
+        }
+    }
+
+    pub fn request(&mut self) -> &mut Request {
+        match &mut self.call {
+            Call::Issue { request, .. } => request,
+            _ => panic!("only issue has a request"),
+        }
+    }
+}
+
+/// Slot 0 with this promise, above that of slot 1.
+pub fn set_promise(medium: &mut [u8], promise: u64) {
+    put(medium, 0, &Slot { promise, low: 0, local: 0 }.encode());
+    put(medium, SLOT_BYTES, &Slot::default().encode());
+}
+
+/// A valid record in place `id`.
+pub fn set_place(medium: &mut [u8], id: u64) {
+    put(medium, place_at(id), &record_bytes(id));
+}
+
+pub fn record_bytes(id: u64) -> PlaceBytes {
+    let (client, generation, partition, sequence, header) = (1, 2, 3, 4, 5);
+    Record { id, client, generation, partition, sequence, header, data: b"six" }.encode()
+}
+
+/// Replicas with these marks and the promise `SESSION`, all known to the server or its members.
+fn cluster(phase: Phase, marks: [u64; 3]) -> Cluster {
+    let shape = Shape { replicas: 3, places: PLACES };
+    let mut cluster = Cluster::fresh(shape).expect("an allowed shape");
+    cluster.records.register.session = SESSION;
+    for (replica, mark) in marks.into_iter().enumerate() {
+        let medium = cluster.medium_mut(replica);
+        set_promise(medium, SESSION);
+        (1..=mark).for_each(|id| set_place(medium, id));
+        let server = &mut cluster.records.servers[SERVER];
+        server.standings[replica] = Standing::In;
+        server.marks[replica] = mark;
+    }
+    let server = &mut cluster.records.servers[SERVER];
+    (server.phase, server.session, server.generation) = (phase, SESSION, GENERATION);
+    cluster
+}
+
+/// An open server with this much issued and acknowledged.
+fn open_cluster(marks: [u64; 3], issued: u64, acknowledged: u64) -> Cluster {
+    let mut cluster = cluster(Phase::Open, marks);
+    let server = &mut cluster.records.servers[SERVER];
+    (server.starting, server.issued, server.acknowledged) = (2, issued, acknowledged);
+    server.record = record_bytes(issued);
+    cluster
+}
+
+pub fn all_scenes() -> [Scene; 12] {
+    let (server, replica, from) = (SERVER as u64, REPLICA as u64, SOURCE as u64);
+    let fate = Fate::Answered;
+    let message = Message::new(fate);
+    let copy = Call::Copy { server, from, to: replica, message };
+    let request = Request {
+        client_mark: 3,
+        generation: GENERATION,
+        data: vec![1; 28],
+        locks: vec![1, 2, 3, 4],
+        ..Request::default()
+    };
+    let opening = |marks| cluster(Phase::Opening, marks);
+    let calm = || open_cluster([4, 4, 4], 4, 4);
+    let idle = || cluster(Phase::Idle, [4, 4, 4]);
+    [
+        (Kind::Take, idle(), Call::Take { server, fate }),
+        (Kind::Prepare, opening([4, 4, 4]), Call::Prepare { server, replica, message }),
+        (Kind::OpeningCopy, opening([3, 4, 4]), copy.clone()),
+        (Kind::OpenCopy, open_cluster([3, 4, 4], 4, 4), copy),
+        (Kind::Trim, opening([6, 4, 4]), Call::Trim { server, replica, message }),
+        (Kind::Open, opening([4, 4, 6]), Call::Open { server, fate }),
+        (Kind::Issue, open_cluster([5, 5, 5], 5, 5), Call::Issue { server, request }),
+        (Kind::Send, open_cluster([3, 4, 3], 4, 3), Call::Send { server, replica, message }),
+        (Kind::Note, calm(), Call::Note { server, replica, message }),
+        (Kind::Read, calm(), Call::Read { server, replica, id: 4, message }),
+        (Kind::Stop, calm(), Call::Stop { server }),
+        (Kind::Reassign, idle(), Call::Reassign),
+    ]
+    .map(|(kind, cluster, call)| Scene { kind, cluster, call })
+}

@@ -1,0 +1,132 @@
+//! Random states, handed in whole, and calls on them.
+
+use super::scene::record_bytes;
+use crate::cluster::{
+    Call, Cluster, Entry, Message, Phase, Request, Server, Shape, Standing, SERVERS,
+};
+use crate::fate::{Fate, Left};
+use crate::locks::TABLE_MARKS;
+use crate::medium::{medium_bytes, place_at, put, Slot, PLACE_BYTES, SLOT_BYTES};
+use crate::random::Random;
+
+/// Draws states in which most things fit and some do not.
+pub struct Draw<'a> {
+    pub random: &'a mut Random,
+    pub places: u64,
+}
+
+impl Draw<'_> {
+    pub fn cluster(&mut self) -> Cluster {
+        let replicas = *self.random.pick(&[1, 3, 3, 3, 5, 7]);
+        let shape = Shape { replicas, places: self.places };
+        let media = (0..replicas).flat_map(|_| self.medium()).collect();
+        let locks = vec![self.random.below(3); SERVERS * TABLE_MARKS];
+        let mut cluster = Cluster { shape, records: Default::default(), media, locks };
+        let register = &mut cluster.records.register;
+        register.session = self.session();
+        register.generation = if self.random.chance(9) { u32::MAX } else { 0 };
+        register.entries = [(); 7].map(|_| self.entry());
+        cluster.records.servers = [(); SERVERS].map(|_| self.server());
+        match self.random.below(40) {
+            0 => cluster.shape.replicas = 2,
+            1 => cluster.shape.places = 0,
+            2 => cluster.media.push(0),
+            _ => {}
+        }
+        cluster
+    }
+
+    fn medium(&mut self) -> Vec<u8> {
+        let mut medium = vec![0; medium_bytes(self.places as usize)];
+        for index in 0..2 {
+            let slot = Slot { promise: self.session(), low: self.random.below(3), local: 0 };
+            put(&mut medium, index * SLOT_BYTES, &slot.encode());
+            if self.random.chance(8) {
+                medium[index * SLOT_BYTES] ^= 1;
+            }
+        }
+        let run = self.random.below(self.places + 1);
+        for number in 1..=self.places {
+            if number <= run || self.random.chance(5) {
+                put(&mut medium, place_at(number), &record_bytes(number));
+            }
+        }
+        medium
+    }
+
+    fn server(&mut self) -> Server {
+        let phase = *self.random.pick(&[Phase::Idle, Phase::Opening, Phase::Open]);
+        let acknowledged = self.mark();
+        let issued = (acknowledged + self.random.below(2)).min(self.places);
+        Server {
+            phase,
+            session: self.session(),
+            generation: 0,
+            entries: [(); 7].map(|_| self.entry()),
+            standings: [(); 7].map(|_| {
+                *self.random.pick(&[Standing::In, Standing::In, Standing::Out, Standing::Dropped])
+            }),
+            marks: [(); 7].map(|_| self.mark()),
+            starting: self.mark(),
+            issued,
+            acknowledged,
+            record: record_bytes(issued),
+        }
+    }
+
+    fn entry(&mut self) -> Entry {
+        let closing = self.random.chance(2).then(|| self.mark());
+        Entry { session: self.session(), closing }
+    }
+
+    /// Few values, so that sessions and promises often agree.
+    fn session(&mut self) -> u64 {
+        *self.random.pick(&[1, 1, 1, 1, 2, u64::MAX])
+    }
+
+    fn mark(&mut self) -> u64 {
+        self.random.below(self.places + 1) + u64::from(self.random.chance(2_000))
+    }
+
+    fn message(&mut self) -> Message {
+        let cut =
+            Fate::Cut(self.random.below(4), *self.random.pick(&[Left::Old, Left::New, Left::Torn]));
+        let fates = [Fate::Answered, Fate::Answered, Fate::Lost, Fate::AnswerLost, cut];
+        let given = match self.random.below(4) {
+            0 => record_bytes(1 + self.random.below(self.places + 1)),
+            _ => [0x5A; PLACE_BYTES],
+        };
+        Message { fate: *self.random.pick(&fates), given }
+    }
+
+    pub fn call(&mut self, cluster: &Cluster) -> Call {
+        let server = self.random.below(33) % 5;
+        let replica = self.random.below(cluster.shape.replicas + 1);
+        let from = self.random.below(cluster.shape.replicas + 1);
+        let message = self.message();
+        let fate = message.fate;
+        match self.random.below(11) {
+            0 => Call::Take { server, fate },
+            1 => Call::Prepare { server, replica, message },
+            2 => Call::Copy { server, from, to: replica, message },
+            3 => Call::Trim { server, replica, message },
+            4 => Call::Open { server, fate },
+            5 => Call::Issue { server, request: self.request() },
+            6 => Call::Send { server, replica, message },
+            7 => Call::Note { server, replica, message },
+            8 => Call::Read { server, replica, id: self.mark(), message },
+            9 => Call::Stop { server },
+            _ => Call::Reassign,
+        }
+    }
+
+    fn request(&mut self) -> Request {
+        Request {
+            client_mark: self.mark(),
+            generation: u32::from(self.random.chance(9)),
+            data: vec![0; if self.random.chance(9) { 29 } else { 3 }],
+            locks: (0..self.random.below(6)).map(|_| self.random.number()).collect(),
+            ..Request::default()
+        }
+    }
+}

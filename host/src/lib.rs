@@ -20,3 +20,5 @@ pub mod exported;
 pub mod script;
 
 pub mod vectors;
+
+pub mod jobs;

@@ -36,8 +36,8 @@ fn answer(line: &str) -> Option<String> {
 fn crc(count: u64) -> u64 {
     let mut cluster = stage::fresh();
     let bytes = &mut cluster.media[..CRC_BYTES];
-    total(count, |turn| {
-        bytes[0] = turn as u8;
+    total(count, |left| {
+        bytes[0] = left as u8;
         u64::from(crc32(bytes))
     })
 }
@@ -45,8 +45,8 @@ fn crc(count: u64) -> u64 {
 /// The marks of seven full media.
 fn marks(count: u64) -> u64 {
     let mut cluster = filled(1000);
-    total(count, |turn| {
-        cluster.media[0] = turn as u8;
+    total(count, |left| {
+        cluster.media[0] = left as u8;
         (0..7).map(|replica| medium::mark(cluster.medium(replica))).sum()
     })
 }
@@ -92,6 +92,7 @@ fn open(count: u64) -> u64 {
     })
 }
 
+/// The sum over the turns; each is told how many are left.
 fn total(count: u64, mut turn: impl FnMut(u64) -> u64) -> u64 {
-    (0..count).fold(0, |sum, number| sum.wrapping_add(turn(number)))
+    (1..=count).rev().fold(0, |sum, left| sum.wrapping_add(turn(left)))
 }

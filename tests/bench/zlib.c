@@ -19,8 +19,8 @@ int main(void) {
     for (size_t slot = 0; slot < 2; slot++)
       for (size_t i = 0; i < 4; i++)
         bytes[medium + slot * SLOT + SLOT - 4 + i] = (unsigned char)(check >> (24 - 8 * i));
-  for (uint64_t turn = 0; turn < count; turn++) {
-    bytes[0] = (unsigned char)turn;
+  for (uint64_t left = count; left > 0; left--) {
+    bytes[0] = (unsigned char)left;
     sum += crc32(0, bytes, BYTES);
   }
   printf("%" PRIu64 "\n", sum);

@@ -17,6 +17,7 @@ use text::number::Number;
 
 mod jobs;
 mod stage;
+mod turns;
 
 fn say(text: &[u8]) {
     io::write_all(STDOUT_FILENO, text);
@@ -62,7 +63,7 @@ fn answer(t: &Tables, text: &[u8], m: &mut [u8], tables: &mut [u64]) -> bool
 }
 
 // The lines, each ended by a newline.
-fn run(t: &Tables, input: &[u8], m: &mut [u8], tables: &mut [u64])
+fn answer_all(t: &Tables, input: &[u8], m: &mut [u8], tables: &mut [u64])
     requires { ⌜ now t ≡ tablesOf ⌝ }
     requires { ⌜ (length (now m) ≡ mediaLength) × (length (now tables) ≡ tablesLength) ⌝ }
 {
@@ -80,11 +81,19 @@ fn run(t: &Tables, input: &[u8], m: &mut [u8], tables: &mut [u64])
     }
 }
 
+// All the input is read at once.
+fn run(t: &Tables, m: &mut [u8], tables: &mut [u64])
+    requires { ⌜ now t ≡ tablesOf ⌝ }
+    requires { ⌜ (length (now m) ≡ mediaLength) × (length (now tables) ≡ tablesLength) ⌝ }
+{
+    let mut input = io::buffer();
+    let n = io::read_full(STDIN_FILENO, &mut input);
+    answer_all(t, &input[0..n], m, tables);
+}
+
 fn main() {
     let t = crc32::tables();
     let mut m = [0u8; MEDIA];
     let mut tables = [0u64; TABLES];
-    let mut input = io::buffer();
-    let n = io::read_full(STDIN_FILENO, &mut input);
-    run(&t, &input[0..n], &mut m, &mut tables);
+    run(&t, &mut m, &mut tables);
 }

@@ -23,20 +23,15 @@ pub const MEDIA: usize = 448448;
 
 pub const TABLES: usize = 4096;
 
-fn shape() -> Shape
-    ensures { λ h. ⌜ h ≡ record { replicas = 7; places = 1000 } ⌝ }
-{
-    Shape {
-        replicas: REPLICAS,
-        places: PLACES,
-    }
-}
-
 pub fn begun(t: &Tables, m: &mut [u8], tables: &mut [u64]) -> Records
     requires { ⌜ now t ≡ tablesOf ⌝ }
     requires { ⌜ (length (now m) ≡ mediaLength) × (length (now tables) ≡ tablesLength) ⌝ }
 {
-    fresh::start(t, shape(), m, tables)
+    let shape = Shape {
+        replicas: REPLICAS,
+        places: PLACES,
+    };
+    fresh::start(t, shape, m, tables)
 }
 
 // One call; a request has 28 bytes of data and no lock.
@@ -44,7 +39,11 @@ pub fn make(r: Records, m: &mut [u8], tables: &mut [u64], call: Call) -> Outcome
     let data = [0u8; 28];
     let none = [0u64; 1];
     let given = [0u8; 64];
-    journal::apply::apply(shape(), r, m, tables, call, &data, &none[0..0], &given)
+    let shape = Shape {
+        replicas: REPLICAS,
+        places: PLACES,
+    };
+    journal::apply::apply(shape, r, m, tables, call, &data, &none[0..0], &given)
 }
 
 // The value of an answer, 0 where it has none.
@@ -95,10 +94,10 @@ pub fn filled(r: Records, m: &mut [u8], tables: &mut [u64], n: u64) -> Records {
     let ready = prepared(r, m, tables, 0);
     let o = make(ready, m, tables, Call::Open(0, Fate::Answered));
     let mut next = o.records;
-    let mut k = 0;
-    while k < n {
+    let mut left = n;
+    while 0 < left {
         next = stored(next, m, tables);
-        k += 1;
+        left -= 1;
     }
     next
 }

@@ -1,17 +1,18 @@
--- The invariant: i media are behind.
+-- The invariant: what is behind and what is left are seven media.
 -- Assumes nothing.
 use mathlib.Core.Path.{_≡_}
-use Prim.Native.Nat.{_*_, _-_}
+use Prim.Native.Nat.{_+_, _*_}
 use Rattle.storage.specs.Sizes.{mediumSize}
+use Rattle.bench.specs.Sizes.{mediaLength}
 use borrow.Author.Needs.{needs}
-use Rattle.bench.proofs.jobs.seven_marks.Statement.{statement}
-use Rattle.bench.proofs.jobs.seven_marks.Tie as tie
+use Rattle.bench.proofs.turns.seven_marks.Statement.{statement}
+use Rattle.bench.proofs.turns.seven_marks.Tie as tie
 
 abbrev Inv-loop : tie.InvT-loop
-Inv-loop t m sum₀ at₀ i₀ sum at i = at ≡ i * mediumSize 1000
+Inv-loop t m sum₀ at₀ left₀ sum at left = at + left * mediumSize 1000 ≡ mediaLength
 
 abbrev μ-loop : tie.MeasureT-loop
-μ-loop t m sum₀ at₀ i₀ sum at i = 7 - i
+μ-loop t m sum₀ at₀ left₀ sum at left = left
 
 loop-holds : tie.Need-loop-holds Inv-loop μ-loop
 loop-holds c = search needs
@@ -34,8 +35,8 @@ mark-requires c κs = search needs
 wrapping-add-u64-requires : tie.Need-wrapping-add-u64-requires Inv-loop μ-loop
 wrapping-add-u64-requires c κs = search needs
 
-add-i : tie.Need-add-i Inv-loop μ-loop
-add-i c = search needs
+sub-left : tie.Need-sub-left Inv-loop μ-loop
+sub-left c = search needs
 
 loop-less : tie.Need-loop-less Inv-loop μ-loop
 loop-less c = search needs
@@ -59,7 +60,7 @@ seven-marks-spec =
     part-mark-end
     mark-requires
     wrapping-add-u64-requires
-    add-i
+    sub-left
     loop-less
     loop-again
     returns)

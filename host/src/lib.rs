@@ -26,3 +26,5 @@ pub mod compare;
 pub mod tries;
 
 pub mod drive;
+
+pub mod jobs;

@@ -20,7 +20,7 @@ step-linear a b =
     ap₂ bitXor (xor-half a b) (xor-odd-times a b polynomial)
     ∙ xor-swap (a / 2) (b / 2) ((a % 2) * polynomial) ((b % 2) * polynomial)
 
-steps-linear : (k a b : ℕ) → bitSteps k (bitXor a b) ≡ bitXor (bitSteps k a) (bitSteps k b)
+pub steps-linear : (k a b : ℕ) → bitSteps k (bitXor a b) ≡ bitXor (bitSteps k a) (bitSteps k b)
 unfolding bitSteps
 steps-linear zero a b = refl
 steps-linear (suc k) a b = ap (bitSteps k) (step-linear a b) ∙ steps-linear k (bitStep a) (bitStep b)

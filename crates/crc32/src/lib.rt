@@ -1,7 +1,8 @@
-// CRC-32 of IEEE 802.3, reflected, eight bytes a step. The loops over these eight have a fixed count, so the compiler unrolls them.
+// CRC-32 of IEEE 802.3, reflected, eight bytes a step. The loops over four bytes have a fixed count, so the compiler unrolls them.
 ghost use mathlib.Core.Path.{_≡_};
-ghost use Prim.Native.Nat.{_+_, _≤_};
+ghost use Prim.Native.Nat.{_+_, _*_, _≤_};
 ghost use lib.ListN.{length, take, drop};
+ghost use lib.Bits.{bitXor};
 ghost use Rattle.octets.specs.Octets.{part, writeAt, beBytes};
 ghost use Rattle.crc32.specs.Crc32.{bitSteps, crcFrom, crcOf, checked};
 ghost use Rattle.crc32.specs.Tables.{tablesOf, leOf};
@@ -18,30 +19,31 @@ pub fn tables() -> Tables
     entries::ENTRIES
 }
 
-// The number that the eight bytes from an offset on stand for, lowest first.
-fn load(s: &[u8], at: usize) -> u64
-    requires { ⌜ at + 8 ≤ length (now s) ⌝ }
-    ensures { λ r. ⌜ r ≡ leOf (part at 8 (now (s .entry))) ⌝ }
+// The number that the four bytes from an offset on stand for, lowest first.
+fn load(s: &[u8], at: usize) -> u32
+    requires { ⌜ at + 4 ≤ length (now s) ⌝ }
+    ensures { λ r. ⌜ r ≡ leOf (part at 4 (now (s .entry))) ⌝ }
 {
-    let mut v: u64 = 0;
-    let mut j: usize = 8;
+    let mut v: u32 = 0;
+    let mut j: usize = 4;
     while 0 < j {
         j -= 1;
-        let b = s[at + j] as u64;
+        let b = s[at + j] as u32;
         v = v * 256 + b;
     }
     v
 }
 
-// 64 bit steps, by a look-up for each byte of x.
-fn word(t: &Tables, x: u64) -> u32
+// What the bit steps of `width` bytes make of four, beside what is looked up already: a look-up for each byte of x.
+fn look_up(t: &Tables, x: u32, width: usize, before: u32) -> u32
     requires { ⌜ now t ≡ tablesOf ⌝ }
-    ensures { λ r. ⌜ r ≡ bitSteps 64 x ⌝ }
+    requires { ⌜ (4 ≤ width) × (width ≤ 8) ⌝ }
+    ensures { λ r. ⌜ r ≡ bitXor before (bitSteps (8 * width) x) ⌝ }
 {
-    let mut r: u32 = 0;
+    let mut r = before;
     let mut y = x;
-    let mut k: usize = 8;
-    while 0 < k {
+    let mut k = width;
+    while width - 4 < k {
         k -= 1;
         r = r ^ t[256 * k + (y % 256) as usize];
         y = y / 256;
@@ -49,8 +51,27 @@ fn word(t: &Tables, x: u64) -> u32
     r
 }
 
+// The register after the four bytes from an offset on.
+fn four(t: &Tables, s: &[u8], at: usize, before: u32) -> u32
+    requires { ⌜ now t ≡ tablesOf ⌝ }
+    requires { ⌜ at + 4 ≤ length (now s) ⌝ }
+    ensures { λ r. ⌜ r ≡ crcFrom before (part at 4 (now (s .entry))) ⌝ }
+{
+    look_up(t, before ^ load(s, at), 4, 0)
+}
+
+// The register after eight bytes. The upper four need not wait for the register, so they are looked up first.
+fn eight(t: &Tables, s: &[u8], at: usize, before: u32) -> u32
+    requires { ⌜ now t ≡ tablesOf ⌝ }
+    requires { ⌜ at + 8 ≤ length (now s) ⌝ }
+    ensures { λ r. ⌜ r ≡ crcFrom before (part at 8 (now (s .entry))) ⌝ }
+{
+    let upper = look_up(t, load(s, at + 4), 4, 0);
+    look_up(t, before ^ load(s, at), 8, upper)
+}
+
 // The register after the bytes from an offset on, a byte a step.
-fn tail(t: &Tables, s: &[u8], from: usize, before: u32) -> u32
+fn single(t: &Tables, s: &[u8], from: usize, before: u32) -> u32
     requires { ⌜ now t ≡ tablesOf ⌝ }
     ensures { λ r. ⌜ r ≡ crcFrom before (drop from (now (s .entry))) ⌝ }
 {
@@ -64,6 +85,18 @@ fn tail(t: &Tables, s: &[u8], from: usize, before: u32) -> u32
     r
 }
 
+// The same, with four bytes at once if there are so many.
+fn tail(t: &Tables, s: &[u8], from: usize, before: u32) -> u32
+    requires { ⌜ now t ≡ tablesOf ⌝ }
+    requires { ⌜ from ≤ length (now s) ⌝ }
+    ensures { λ r. ⌜ r ≡ crcFrom before (drop from (now (s .entry))) ⌝ }
+{
+    if s.len() - from < 4 {
+        return single(t, s, from, before);
+    }
+    single(t, s, from + 4, four(t, s, from, before))
+}
+
 // The CRC of a slice.
 pub fn crc(t: &Tables, s: &[u8]) -> u32
     requires { ⌜ now t ≡ tablesOf ⌝ }
@@ -72,7 +105,7 @@ pub fn crc(t: &Tables, s: &[u8]) -> u32
     let mut r: u32 = 0xffff_ffff;
     let mut i = 0;
     while 8 <= s.len() - i {
-        r = word(t, (r as u64) ^ load(s, i));
+        r = eight(t, s, i, r);
         i += 8;
     }
     tail(t, s, i, r) ^ 0xffff_ffff

@@ -14,13 +14,13 @@ use Rattle.crc32.proofs.load.Statement.{statement}
 use Rattle.crc32.proofs.load.Tie as tie
 
 abbrev Inv-loop : tie.InvT-loop
-Inv-loop s at v₀ j₀ v j = (j ≤ 8) × (v ≡ leOf (drop j (part at 8 s)))
+Inv-loop s at v₀ j₀ v j = (j ≤ 4) × (v ≡ leOf (drop j (part at 4 s)))
 
 abbrev μ-loop : tie.MeasureT-loop
 μ-loop s at v₀ j₀ v j = j
 
 loop-holds : tie.Need-loop-holds Inv-loop μ-loop
-loop-holds c = (search needs, sym (le-end (part (c .args .at) 8 (c .args .s .now)) 8 (omega (arith, length-part (c .args .at) 8 (c .args .s .now) (c .pre)))))
+loop-holds c = (search needs, sym (le-end (part (c .args .at) 4 (c .args .s .now)) 4 (omega (arith, length-part (c .args .at) 4 (c .args .s .now) (c .pre)))))
 
 sub-j : tie.Need-sub-j Inv-loop μ-loop
 sub-j c = search needs
@@ -39,14 +39,14 @@ mul-v c =
     let a = c .before .before .before in
     let l = c .before .before .loop in
     let b = bytes-known (a .args .s .now) (λ i. c .shared-slice-known .given i .fits) in
-    omega (arith, le-room (a .args .at) 8 (l .j) (a .args .s .now) b (c .before .loop-test .taken) (l .inv .0) (a .pre))
+    omega (arith, le-room (a .args .at) 4 (l .j) (a .args .s .now) b (c .before .loop-test .taken) (l .inv .0) (a .pre))
 
 add-v : tie.Need-add-v Inv-loop μ-loop
 add-v c =
     let a = c .before .before .before in
     let l = c .before .before .loop in
     let b = bytes-known (a .args .s .now) (λ i. c .shared-slice-known .given i .fits) in
-    omega (arith, le-room (a .args .at) 8 (l .j) (a .args .s .now) b (c .before .loop-test .taken) (l .inv .0) (a .pre))
+    omega (arith, le-room (a .args .at) 4 (l .j) (a .args .s .now) b (c .before .loop-test .taken) (l .inv .0) (a .pre))
 
 loop-less : tie.Need-loop-less Inv-loop μ-loop
 loop-less c = search needs
@@ -56,13 +56,13 @@ loop-again c =
     let a = c .before .before .before in
     let l = c .before .before .loop in
     let s = a .args .s .now in
-    (search needs, ap (λ (n : ℕ). n * 256 + getD s (a .args .at + (l .j - 1)) 0) (l .inv .1) ∙ sym (le-next (a .args .at) 8 (l .j) s (c .before .loop-test .taken) (l .inv .0) (a .pre)))
+    (search needs, ap (λ (n : ℕ). n * 256 + getD s (a .args .at + (l .j - 1)) 0) (l .inv .1) ∙ sym (le-next (a .args .at) 4 (l .j) s (c .before .loop-test .taken) (l .inv .0) (a .pre)))
 
 returns : tie.Need-returns Inv-loop μ-loop
 returns c =
     let a = c .before .before .args in
     let z : c .before .loop .j ≡ 0 = omega arith in
-    c .before .loop .inv .1 ∙ ap (λ (j : ℕ). leOf (drop j (part (a .at) 8 (a .s .now)))) z
+    c .before .loop .inv .1 ∙ ap (λ (j : ℕ). leOf (drop j (part (a .at) 4 (a .s .now)))) z
 
 pub load-spec : {M : Type 1} → statement M
 load-spec =

@@ -1,72 +1,39 @@
--- The loop's invariant: what remains, from the register as it is, gives the result.
+-- The four bytes come in before those behind them.
 -- Assumes nothing.
-use mathlib.Core.Path.{_≡_, refl, sym, ap, _∙_}
-use Prim.Native.Nat.{ℕ, _+_, _-_}
-use lib.ListN.{length, getD, drop}
-use lib.Bits.{bitXor}
+use mathlib.Core.Path.{sym, ap, _∙_}
+use Prim.Native.Nat.{ℕ, _+_}
+use lib.ListN.{drop}
 use Rattle.crc32.specs.Crc32.{crcFrom}
-use Rattle.crc32.proofs.Rows.{byte-step}
-use Rattle.crc32.proofs.Words.{byte-in, none-in}
-use native.Mathlib.Omega.{arith}
+use Rattle.crc32.proofs.Words.{part-in}
 use borrow.Author.Needs.{needs}
 use Rattle.crc32.proofs.tail.Statement.{statement}
 use Rattle.crc32.proofs.tail.Tie as tie
 
-abbrev Inv-loop : tie.InvT-loop
-Inv-loop t s from before r₀ i₀ r i = crcFrom before (drop from s) ≡ crcFrom r (drop i s)
+sub-if1 : tie.Need-sub-if1
+sub-if1 c = search needs
 
-abbrev μ-loop : tie.MeasureT-loop
-μ-loop t s from before r₀ i₀ r i = length s - i
+single-requires : tie.Need-single-requires
+single-requires c κs = search needs
 
-loop-holds : tie.Need-loop-holds Inv-loop μ-loop
-loop-holds c = refl
+returns : tie.Need-returns
+returns c = search needs
 
-shared-slice-read-x : tie.Need-shared-slice-read-x Inv-loop μ-loop
-shared-slice-read-x c = search needs
+add-single : tie.Need-add-single
+add-single c = search needs
 
-cast-x : tie.Need-cast-x Inv-loop μ-loop
-cast-x c = omega (arith, c .shared-slice-known .given (c .before .before .loop .i))
+four-requires : tie.Need-four-requires
+four-requires c κs = search needs
 
-cast-r : tie.Need-cast-r Inv-loop μ-loop
-cast-r c = search needs
+single-requires-2 : tie.Need-single-requires-2
+single-requires-2 c κs = search needs
 
-mul-r : tie.Need-mul-r Inv-loop μ-loop
-mul-r c = search needs
-
-element-copy-out-r : tie.Need-element-copy-out-r Inv-loop μ-loop
-element-copy-out-r c = search needs
-
-add-i : tie.Need-add-i Inv-loop μ-loop
-add-i c = search needs
-
-loop-less : tie.Need-loop-less Inv-loop μ-loop
-loop-less c = search needs
-
-loop-again : tie.Need-loop-again Inv-loop μ-loop
-loop-again c =
+returns-2 : tie.Need-returns-2
+returns-2 c =
     let a = c .before .before .before .before .args in
-    let l = c .before .before .before .loop in
-    let s = a .s .now in
-    let x = bitXor (l .r) (getD s (l .i) 0) in
-    l .inv ∙ byte-in (l .r) (l .i) s (search needs)
-    ∙ ap (λ (n : ℕ). crcFrom n (drop (l .i + 1) s)) (sym (byte-step (a .t .now) x (c .before .before .before .before .pre)))
-
-returns : tie.Need-returns Inv-loop μ-loop
-returns c = sym (c .before .loop .inv ∙ none-in _ (c .before .loop .i) _ (c .loop-test .left))
+    c .single2 .ensures ∙ ap (λ (n : ℕ). crcFrom n (drop (a .«from» + 4) (a .s .now))) (c .before .four .ensures)
+    ∙ sym (part-in 4 (a .before) (a .«from») (a .s .now))
 
 pub tail-spec : {M : Type 1} → statement M
 tail-spec =
     tie.close
-    (tie.spec
-    Inv-loop
-    μ-loop
-    loop-holds
-    shared-slice-read-x
-    cast-x
-    cast-r
-    mul-r
-    element-copy-out-r
-    add-i
-    loop-less
-    loop-again
-    returns)
+    (tie.spec sub-if1 single-requires returns add-single four-requires single-requires-2 returns-2)

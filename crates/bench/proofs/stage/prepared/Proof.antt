@@ -1,0 +1,57 @@
+-- The invariant: what is lent keeps its length.
+-- Assumes nothing.
+use mathlib.Core.Path.{_≡_}
+use Prim.Native.Nat.{_-_}
+use lib.ListN.{length}
+use borrow.Author.Needs.{needs}
+use Rattle.bench.proofs.stage.prepared.Statement.{statement}
+use Rattle.bench.proofs.stage.prepared.Tie as tie
+
+abbrev Inv-loop : tie.InvT-loop
+Inv-loop m₀ tables₀ server next₀ i₀ m tables next i = (length m ≡ length m₀) × (length tables ≡ length tables₀)
+
+abbrev μ-loop : tie.MeasureT-loop
+μ-loop m₀ tables₀ server next₀ i₀ m tables next i = 7 - i
+
+make-requires : tie.Need-make-requires Inv-loop μ-loop
+make-requires c κs = search needs
+
+loop-holds : tie.Need-loop-holds Inv-loop μ-loop
+loop-holds c = search needs
+
+make-requires-2 : tie.Need-make-requires-2 Inv-loop μ-loop
+make-requires-2 c κs = search needs
+
+add-i : tie.Need-add-i Inv-loop μ-loop
+add-i c = search needs
+
+loop-less : tie.Need-loop-less Inv-loop μ-loop
+loop-less c = search needs
+
+loop-again : tie.Need-loop-again Inv-loop μ-loop
+loop-again c = search needs
+
+same-length : tie.Need-same-length Inv-loop μ-loop
+same-length c = search needs
+
+same-length-2 : tie.Need-same-length-2 Inv-loop μ-loop
+same-length-2 c = search needs
+
+returns : tie.Need-returns Inv-loop μ-loop
+returns c = search needs
+
+pub prepared-spec : {M : Type 1} → statement M
+prepared-spec =
+    tie.close
+    (tie.spec
+    Inv-loop
+    μ-loop
+    make-requires
+    loop-holds
+    make-requires-2
+    add-i
+    loop-less
+    loop-again
+    same-length
+    same-length-2
+    returns)

@@ -1,0 +1,104 @@
+// The jobs: each sets a cluster up, and then makes its turn as often as asked. A turn changes a byte that its result does not depend
+// on, or undoes what the turn before did, so that none can be saved.
+ghost use mathlib.Core.Path.{_≡_};
+ghost use lib.ListN.{length};
+ghost use Rattle.crc32.specs.Tables.{tablesOf};
+ghost use Rattle.bench.specs.Sizes.{mediaLength, tablesLength};
+use crate::stage;
+use crate::stage::MEDIUM;
+use crate::turns;
+use cluster::Call;
+use cluster::Entry;
+use cluster::Records;
+use cluster::put_server;
+use crc32::Tables;
+use fate::Fate;
+use std::num::wrapping_add_u64;
+use storage::replica::Closing;
+
+// The CRC of 64 KB.
+pub fn crc(t: &Tables, m: &mut [u8], count: u64) -> u64
+    requires { ⌜ now t ≡ tablesOf ⌝ }
+    requires { ⌜ length (now m) ≡ mediaLength ⌝ }
+{
+    let mut sum: u64 = 0;
+    let mut left = count;
+    while 0 < left {
+        sum = wrapping_add_u64(sum, turns::crc(t, m, left));
+        left -= 1;
+    }
+    sum
+}
+
+// The marks of seven full media.
+pub fn marks(t: &Tables, r: Records, m: &mut [u8], tables: &mut [u64], count: u64) -> u64
+    requires { ⌜ now t ≡ tablesOf ⌝ }
+    requires { ⌜ length (now m) ≡ mediaLength ⌝ }
+{
+    stage::filled(r, m, tables, 1000);
+    let mut sum: u64 = 0;
+    let mut left = count;
+    while 0 < left {
+        sum = wrapping_add_u64(sum, turns::marks(t, m, left));
+        left -= 1;
+    }
+    sum
+}
+
+// One send of record 1,000 to a replica that holds 999.
+pub fn send(r: Records, m: &mut [u8], tables: &mut [u64], count: u64) -> u64
+    requires { ⌜ length (now m) ≡ mediaLength ⌝ }
+{
+    let before = stage::filled(r, m, tables, 999);
+    let ready = stage::issued(before, m, tables);
+    let mut sum: u64 = 0;
+    let mut left = count;
+    while 0 < left {
+        sum = wrapping_add_u64(sum, turns::send(ready, m, tables));
+        left -= 1;
+    }
+    sum
+}
+
+// Server 1 has taken a session in which replica 0 was closed at mark 500.
+fn closed(r: Records, m: &mut [u8], tables: &mut [u64]) -> Records {
+    let o = stage::make(r, m, tables, Call::Take(1, Fate::Answered));
+    let taken = o.records;
+    let mut s = taken.servers[1];
+    s.entries[0] = Entry {
+        session: 1,
+        closing: Closing::Mark(500),
+    };
+    put_server(taken, 1, s)
+}
+
+// One prepare that cuts a full log of 1,000 to 500; the full medium is put back before each, which counts.
+pub fn prepare(r: Records, m: &mut [u8], tables: &mut [u64], count: u64) -> u64
+    requires { ⌜ length (now m) ≡ mediaLength ⌝ }
+{
+    let mut full = [0u8; MEDIUM];
+    let before = stage::filled(r, m, tables, 1000);
+    turns::put_by(m, &mut full);
+    let ready = closed(before, m, tables);
+    let mut sum: u64 = 0;
+    let mut left = count;
+    while 0 < left {
+        sum = wrapping_add_u64(sum, turns::prepare(ready, &full, m, tables));
+        left -= 1;
+    }
+    sum
+}
+
+// One open over seven replicas that all hold 1,000.
+pub fn open(r: Records, m: &mut [u8], tables: &mut [u64], count: u64) -> u64 {
+    let before = stage::filled(r, m, tables, 1000);
+    let ready = stage::prepared(before, m, tables, 1);
+    let mut sum: u64 = 0;
+    let mut left = count;
+    while 0 < left {
+        let o = stage::make(ready, m, tables, Call::Open(1, Fate::Answered));
+        sum = wrapping_add_u64(sum, stage::value(o));
+        left -= 1;
+    }
+    sum
+}

@@ -1,0 +1,99 @@
+// Work to be timed from outside. Each line of standard input names a job and how often it is done; the answer to it is one number that
+// depends on every turn. Setting the job up takes the same time whatever the count, so the time of one turn is found by two counts.
+// What stdout must equal comes from the other implementation (host/src/jobs.rs), which does the same jobs.
+ghost use mathlib.Core.Path.{_≡_};
+ghost use Prim.Native.Nat.{_≤_};
+ghost use lib.ListN.{length};
+ghost use Rattle.crc32.specs.Tables.{tablesOf};
+ghost use Rattle.bench.specs.Sizes.{mediaLength, tablesLength};
+use crate::stage::MEDIA;
+use crate::stage::TABLES;
+use crc32::Tables;
+use libc::STDIN_FILENO;
+use libc::STDOUT_FILENO;
+use text::line;
+use text::number;
+use text::number::Number;
+
+mod jobs;
+mod stage;
+mod turns;
+
+fn say(text: &[u8]) {
+    io::write_all(STDOUT_FILENO, text);
+}
+
+// A job by its name, done so often; false where there is none of this name.
+fn done(t: &Tables, name: &[u8], count: u64, m: &mut [u8], tables: &mut [u64]) -> bool
+    requires { ⌜ now t ≡ tablesOf ⌝ }
+    requires { ⌜ (length (now m) ≡ mediaLength) × (length (now tables) ≡ tablesLength) ⌝ }
+{
+    let r = stage::begun(t, m, tables);
+    if check::same(name, b"crc") {
+        return print(jobs::crc(t, m, count));
+    }
+    if check::same(name, b"marks") {
+        return print(jobs::marks(t, r, m, tables, count));
+    }
+    if check::same(name, b"send") {
+        return print(jobs::send(r, m, tables, count));
+    }
+    if check::same(name, b"prepare") {
+        return print(jobs::prepare(r, m, tables, count));
+    }
+    if check::same(name, b"open") {
+        return print(jobs::open(r, m, tables, count));
+    }
+    false
+}
+
+fn print(v: u64) -> bool {
+    io::print_decimal(STDOUT_FILENO, v);
+    true
+}
+
+fn answer(t: &Tables, text: &[u8], m: &mut [u8], tables: &mut [u64]) -> bool
+    requires { ⌜ now t ≡ tablesOf ⌝ }
+    requires { ⌜ (length (now m) ≡ mediaLength) × (length (now tables) ≡ tablesLength) ⌝ }
+{
+    let Number::Is(count) = number::decimal(line::field(text, 1)) else {
+        return false;
+    };
+    done(t, line::field(text, 0), count, m, tables)
+}
+
+// The lines, each ended by a newline.
+fn answer_all(t: &Tables, input: &[u8], m: &mut [u8], tables: &mut [u64])
+    requires { ⌜ now t ≡ tablesOf ⌝ }
+    requires { ⌜ (length (now m) ≡ mediaLength) × (length (now tables) ≡ tablesLength) ⌝ }
+{
+    let mut i = 0;
+    while i < input.len() {
+        let j = bytes::scan::find(input, i, input.len(), b'\n');
+        if !answer(t, &input[i..j], m, tables) {
+            say(b"bad");
+        }
+        say(b"\n");
+        if j == input.len() {
+            return;
+        }
+        i = j + 1;
+    }
+}
+
+// All the input is read at once.
+fn run(t: &Tables, m: &mut [u8], tables: &mut [u64])
+    requires { ⌜ now t ≡ tablesOf ⌝ }
+    requires { ⌜ (length (now m) ≡ mediaLength) × (length (now tables) ≡ tablesLength) ⌝ }
+{
+    let mut input = io::buffer();
+    let n = io::read_full(STDIN_FILENO, &mut input);
+    answer_all(t, &input[0..n], m, tables);
+}
+
+fn main() {
+    let t = crc32::tables();
+    let mut m = [0u8; MEDIA];
+    let mut tables = [0u64; TABLES];
+    run(&t, &mut m, &mut tables);
+}

@@ -1,0 +1,98 @@
+//! The benchmark's jobs, as the proved program crates/bench does them: a line names a job and how
+//! often it is done, and the answer is one number that depends on every turn. A job changes a byte
+//! that its result does not depend on, or undoes what the turn before did, so that no turn can be
+//! saved.
+
+mod stage;
+
+use crate::cluster::{Call, Cluster, Entry};
+use crate::crc::crc32;
+use crate::fate::Fate;
+use crate::medium;
+use stage::{filled, issue, make, message, prepare_all};
+
+/// The bytes whose CRC is taken.
+const CRC_BYTES: usize = 65536;
+
+/// The answers to lines of jobs.
+pub fn output(input: &str) -> String {
+    input.lines().map(|line| answer(line).unwrap_or("bad".to_string()) + "\n").collect()
+}
+
+fn answer(line: &str) -> Option<String> {
+    let (name, count) = line.split_once('\t')?;
+    let job = match name {
+        "crc" => crc,
+        "marks" => marks,
+        "send" => send,
+        "prepare" => prepare,
+        "open" => open,
+        _ => return None,
+    };
+    Some(job(count.parse().ok()?).to_string())
+}
+
+/// The CRC of 64 KB.
+fn crc(count: u64) -> u64 {
+    let mut cluster = stage::fresh();
+    let bytes = &mut cluster.media[..CRC_BYTES];
+    total(count, |left| {
+        bytes[0] = left as u8;
+        u64::from(crc32(bytes))
+    })
+}
+
+/// The marks of seven full media.
+fn marks(count: u64) -> u64 {
+    let mut cluster = filled(1000);
+    total(count, |left| {
+        cluster.media[0] = left as u8;
+        (0..7).map(|replica| medium::mark(cluster.medium(replica))).sum()
+    })
+}
+
+/// One send of record 1,000 to a replica that holds 999.
+fn send(count: u64) -> u64 {
+    let mut cluster = filled(999);
+    issue(&mut cluster);
+    let ready = cluster.records;
+    let call = Call::Send { server: 0, replica: 0, message: message() };
+    total(count, |_| {
+        let last = medium::place_at(1000);
+        cluster.medium_mut(0)[last..].fill(0);
+        cluster.records = ready;
+        make(&mut cluster, &call)
+    })
+}
+
+/// One prepare that cuts a full log of 1,000 to 500; the full medium is put back before each, which
+/// counts.
+fn prepare(count: u64) -> u64 {
+    let mut cluster = filled(1000);
+    let full = cluster.medium(0).to_vec();
+    make(&mut cluster, &Call::Take { server: 1, fate: Fate::Answered });
+    cluster.records.servers[1].entries[0] = Entry { session: 1, closing: Some(500) };
+    let ready = cluster.records;
+    let call = Call::Prepare { server: 1, replica: 0, message: message() };
+    total(count, |_| {
+        cluster.medium_mut(0).copy_from_slice(&full);
+        cluster.records = ready;
+        make(&mut cluster, &call)
+    })
+}
+
+/// One open over seven replicas that all hold 1,000.
+fn open(count: u64) -> u64 {
+    let mut cluster: Cluster = filled(1000);
+    prepare_all(&mut cluster, 1);
+    let ready = cluster.records;
+    total(count, |_| {
+        cluster.records = ready;
+        make(&mut cluster, &Call::Open { server: 1, fate: Fate::Answered })
+    })
+}
+
+/// The sum over the turns; each is told how many are left.
+fn total(count: u64, mut turn: impl FnMut(u64) -> u64) -> u64 {
+    (1..=count).rev().fold(0, |sum, left| sum.wrapping_add(turn(left)))
+}

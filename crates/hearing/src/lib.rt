@@ -1,6 +1,6 @@
 // Before and after a message to a replica: refusals 6 to 8, and what a server makes of what it hears.
 ghost use mathlib.Core.Path.{_≡_};
-ghost use mathlib.Core.Bool.{not, false};
+ghost use mathlib.Core.Bool.{_&&_, not, false};
 ghost use mathlib.Core.List.{[], _∷_};
 ghost use Prim.Native.Nat.{_+_, _*_, _<_, _≤_};
 ghost use lib.ListN.{length, replicate};
@@ -86,12 +86,20 @@ pub fn check_replica(v: Server, i: usize, f: Fate, given: &[u8; 64], places: u64
 
 // ---- the vote
 
+fn active(known: bool, dropped: bool) -> bool
+    ensures { λ b. ⌜ b ≡ (known && not dropped) ⌝ }
+{
+    if known { !dropped } else { false }
+}
+
 fn active_flags(v: Server) -> [bool; 7]
     ensures { λ a. ⌜ a ≡ upTo (activeAt v) (replicate 7 false) 7 ⌝ }
 {
+    let known = v.known;
+    let dropped = v.dropped;
     let mut flags = [false; 7];
     for i in 0..7 {
-        flags[i] = is_active(v, i);
+        flags[i] = active(known[i], dropped[i]);
     }
     flags
 }

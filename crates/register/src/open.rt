@@ -1,9 +1,10 @@
 // open: an opening server whose mark is decided and held by Q clean replicas opens its session.
 ghost use mathlib.Core.Path.{_≡_};
-ghost use mathlib.Core.Bool.{_&&_, false, cond};
+ghost use mathlib.Core.Bool.{_&&_, not, false, cond};
 ghost use mathlib.Core.List.{List, [], _∷_};
 ghost use Prim.Native.Nat.{ℕ, _<_, _≤_};
 ghost use lib.ListN.{length, replicate};
+ghost use lib.Dec.{eqb};
 ghost use Rattle.base.specs.Below.{upTo};
 ghost use Rattle.cluster.specs.declared.Call.the-variants as call;
 ghost use Rattle.cluster.specs.State.{serverAt, entryAt};
@@ -25,27 +26,34 @@ use cluster::Register;
 use cluster::Server;
 use cluster::Shape;
 use fate::Fate;
-use hearing::is_active;
 use hearing::vote_among;
 use quorum::Vote;
 use storage::replica::Closing;
 
-// Whether a replica is clean: known, and exactly at the mark.
-fn is_clean(v: Server, i: usize, d: u64) -> bool
-    requires { ⌜ i < 7 ⌝ }
-    ensures { λ b. ⌜ b ≡ cleanBy v d i ⌝ }
+// Whether a replica is clean: known, not dropped, and exactly at the mark. The loops below read it off the arrays that they need, since
+// a server's record that is passed by value is copied.
+fn is_clean(known: bool, dropped: bool, mark: u64, d: u64) -> bool
+    ensures { λ b. ⌜ b ≡ ((known && not dropped) && eqb mark d) ⌝ }
 {
-    let m = v.marks[i];
-    if is_active(v, i) { m == d } else { false }
+    if !known {
+        return false;
+    }
+    if dropped {
+        return false;
+    }
+    mark == d
 }
 
 fn clean_flags(v: Server, d: u64, r: usize) -> [bool; 7]
     requires { ⌜ r ≤ 7 ⌝ }
     ensures { λ f. ⌜ f ≡ upTo (cleanBy v d) (replicate 7 false) r ⌝ }
 {
+    let known = v.known;
+    let dropped = v.dropped;
+    let marks = v.marks;
     let mut out = [false; 7];
     for i in 0..r {
-        out[i] = is_clean(v, i, d);
+        out[i] = is_clean(known[i], dropped[i], marks[i], d);
     }
     out
 }
@@ -61,9 +69,12 @@ fn marks_after(v: Server, d: u64, r: usize) -> [u64; 7]
     requires { ⌜ r ≤ 7 ⌝ }
     ensures { λ m. ⌜ m ≡ upTo (λ i. cond (cleanBy v d i) d 0) (replicate 7 0) r ⌝ }
 {
+    let known = v.known;
+    let dropped = v.dropped;
+    let marks = v.marks;
     let mut out = [0; 7];
     for i in 0..r {
-        out[i] = mark_after(is_clean(v, i, d), d);
+        out[i] = mark_after(is_clean(known[i], dropped[i], marks[i], d), d);
     }
     out
 }
@@ -92,10 +103,15 @@ fn entries_after(entries: [Entry; 7], v: Server, d: u64, r: usize) -> [Entry; 7]
     requires { ⌜ r ≤ 7 ⌝ }
     ensures { λ es. ⌜ es ≡ upTo (λ i. entryAfter (entryAt entries i) (cleanBy v d i) (v .session) d) entries r ⌝ }
 {
+    let known = v.known;
+    let dropped = v.dropped;
+    let marks = v.marks;
+    let session = v.session;
     let mut out = entries;
     for i in 0..r {
         let e = entries[i];
-        out[i] = entry_after(e, is_clean(v, i, d), v.session, d);
+        let clean = is_clean(known[i], dropped[i], marks[i], d);
+        out[i] = entry_after(e, clean, session, d);
     }
     out
 }

@@ -1,3 +1,4 @@
 pub mod Tests
+pub mod Tops
 pub mod Below
 pub mod Same

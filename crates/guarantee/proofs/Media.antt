@@ -1,20 +1,17 @@
 -- The tie of a medium whose log stayed, became shorter, or got a record.
 -- Assumes nothing.
-use mathlib.Core.Path.{_≡_, refl, sym, ap, _∙_}
-use mathlib.Core.Bool.{Bool, true, false, cond}
+use mathlib.Core.Path.{_≡_, sym, ap, _∙_}
 use mathlib.Core.List.{List, [], _∷_, _++_}
 use mathlib.Core.Option.{Option, some}
-use Prim.Native.Nat.{ℕ, zero, suc, _+_, _-_, _≤_, _<_}
+use Prim.Native.Nat.{ℕ, suc, _+_, _-_, _≤_}
 use native.Mathlib.Omega.{arith}
 use native.Mathlib.Decide.{ℕ-discrete}
 use lib.ListN.{length, getD, take, length-append, List·getD-append}
 use lib.Seq.{take-length, getD-take, getD-at, length-take-le}
 use Rattle.storage.specs.declared.slot.Slot.{Slot}
-use Rattle.storage.specs.Places.{validPlace}
 use Rattle.storage.specs.Slots.{storedSlot, HasSlot, FittingSlot}
-use Rattle.storage.specs.Log.{placeAt, placesFrom, run, logOf, markOf, Sound}
-use Rattle.storage.proofs.Scan.{mark-le}
-use Rattle.storage.proofs.Blocks.{getD-places}
+use Rattle.storage.specs.Log.{placeAt, logOf, markOf, Sound}
+use Rattle.storage.proofs.LogPlaces.{log-place}
 use Rattle.storage.proofs.Truncating.{mark-is}
 use Rattle.storage.proofs.Promises.{SlotsKept}
 use Rattle.protocol.specs.State.{Tx}
@@ -22,29 +19,6 @@ use Rattle.protocol.specs.Columns.{upd}
 use Rattle.protocol.proofs.Columns.{upd-at, upd-other}
 use Rattle.guarantee.specs.History.{Transaction}
 use Rattle.guarantee.proofs.Ties.{Copy, transactionOf, ReplicaTie}
-
--- ================ the places of a log
-
-run-at : (n i : ℕ) (ps : List (List ℕ)) → i < length (run n ps) → getD (run n ps) i [] ≡ getD ps i []
-unfolding run
-run-at n i [] h = absurd (omega arith)
-run-at n i (p ∷ ps) h = go (validPlace n p) i h (λ j l. run-at (n + 1) j ps l)
-  where
-    go : (b : Bool) (i : ℕ) → i < length (cond b (p ∷ run (n + 1) ps) [])
-        → ((j : ℕ) → j < length (run (n + 1) ps) → getD (run (n + 1) ps) j [] ≡ getD ps j [])
-        → getD (cond b (p ∷ run (n + 1) ps) []) i [] ≡ getD (p ∷ ps) i []
-    go true zero h f = refl
-    go true (suc i) h f = f i (omega arith)
-    go false i h f = absurd (omega arith)
-
--- place n of a medium, where it is in the log
-pub log-place : (N : ℕ) (m : List ℕ) (n : ℕ) → 1 ≤ n → n ≤ markOf N m → placeAt n m ≡ getD (logOf N m) (n - 1) []
-unfolding logOf markOf
-log-place N m n lo hi =
-    let q : 1 + (n - 1) ≡ n = omega arith in
-    sym (run-at 1 (n - 1) (placesFrom N 1 m) (omega arith)
-    ∙ getD-places N 1 (n - 1) m (omega (arith, mark-le N m))
-    ∙ ap (λ (k : ℕ). placeAt k m) q)
 
 -- ================ a log that is a part of the old one
 

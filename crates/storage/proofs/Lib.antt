@@ -9,6 +9,7 @@ pub mod Wiping
 pub mod Writing
 pub mod Runs
 pub mod Blocks
+pub mod LogPlaces
 pub mod LogWrites
 pub mod SlotWrites
 pub mod Truncating

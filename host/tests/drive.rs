@@ -1,8 +1,7 @@
 //! The stored run of the drive program is what this implementation gives, and it meets every call,
 //! refusal and fate.
 
-use std::fs;
-use std::path::Path;
+mod stored;
 
 use twin::drive::{self, CALLS, FATES, REFUSALS};
 
@@ -36,24 +35,11 @@ const DECLINED: [&[&str]; REFUSALS as usize] = [
     &["open"],
 ];
 
-fn stored(name: &str) -> String {
-    let file = Path::new(env!("CARGO_MANIFEST_DIR")).join("../crates/drive").join(name);
-    fs::read_to_string(&file).unwrap_or_else(|error| panic!("{}: {error}", file.display()))
-}
-
-/// Compares line by line, so that a failure shows one line and not two files.
-fn assert_same_lines(stored: &str, expected: &str) {
-    for (number, (stored, expected)) in (1..).zip(stored.lines().zip(expected.lines())) {
-        assert_eq!(stored, expected, "line {number}");
-    }
-    assert!(stored == expected, "one has more lines than the other");
-}
-
 #[test]
 fn stored_files_are_what_the_seed_gives() {
     let run = drive::run();
-    assert_same_lines(&stored("stdin"), &run.input);
-    assert_same_lines(&stored("stdout"), &run.output);
+    stored::assert_same_lines(&stored::text("crates/drive/stdin"), &run.input);
+    stored::assert_same_lines(&stored::text("crates/drive/stdout"), &run.output);
 }
 
 #[test]

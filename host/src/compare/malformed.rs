@@ -5,8 +5,8 @@ use super::calls::digits;
 use super::line::{Kind, Line};
 use crate::random::Random;
 
-#[derive(Clone, Copy, Debug, PartialEq, Eq, PartialOrd, Ord)]
-pub enum Malformed {
+kinds! {
+    Malformed:
     Empty,
     OtherName,
     FieldsMissing,
@@ -34,33 +34,6 @@ pub enum Malformed {
 }
 
 use Malformed::*;
-
-pub const ALL: [Malformed; 24] = [
-    Empty,
-    OtherName,
-    FieldsMissing,
-    FieldTooMany,
-    LeadingTab,
-    BlankForTab,
-    BlankAround,
-    CarriageReturn,
-    EmptyNumber,
-    Plus,
-    Minus,
-    OtherCharacter,
-    OtherFate,
-    Beyond32,
-    Beyond64,
-    ThirtyDigits,
-    OddDigits,
-    OtherDigit,
-    HighByte,
-    Nul,
-    AnyBytes,
-    Bytes501,
-    Bytes5000,
-    Megabyte,
-];
 
 /// Names of calls that have no form, and names that almost have one.
 const NAMES: [&str; 16] = [

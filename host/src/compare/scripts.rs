@@ -144,11 +144,11 @@ impl Writer {
     /// A malformed or an unusual line.
     fn odd_line(&mut self, random: &mut Random, call: &Line, issue: &Line) {
         if random.chance(3) {
-            let kind = *random.pick(&unusual::ALL);
+            let kind = *random.pick(unusual::ALL);
             self.unusual.insert(kind);
             return self.line(&kind.line(random, call, issue));
         }
-        let kind = match *random.pick(&malformed::ALL) {
+        let kind = match *random.pick(malformed::ALL) {
             // Rarely, as a script may have many malformed lines.
             Malformed::Megabyte if !random.chance(20) => Malformed::Bytes5000,
             kind => kind,

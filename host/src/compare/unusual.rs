@@ -5,8 +5,8 @@ use super::line::{Kind, Line};
 use crate::hex;
 use crate::random::Random;
 
-#[derive(Clone, Copy, Debug, PartialEq, Eq, PartialOrd, Ord)]
-pub enum Unusual {
+kinds! {
+    Unusual:
     LeadingZeros,
     Most64,
     Most32,
@@ -27,26 +27,6 @@ pub enum Unusual {
 }
 
 use Unusual::*;
-
-pub const ALL: [Unusual; 17] = [
-    LeadingZeros,
-    Most64,
-    Most32,
-    NoData,
-    Data28,
-    Data29,
-    Data200,
-    CapitalDigits,
-    SmallDigits,
-    Locks4,
-    Locks5,
-    Locks6,
-    Locks240,
-    Bytes499,
-    Bytes500,
-    OtherReplicas,
-    OtherPlaces,
-];
 
 /// No R of a cluster, the last two of them 3 in fewer bits.
 const REPLICAS: [u64; 9] = [0, 2, 4, 6, 8, 9, u64::MAX, 259, (1 << 32) + 3];

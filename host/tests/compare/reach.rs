@@ -38,8 +38,8 @@ fn every_kind_of_line() {
         spoilt.append(&mut script.malformed);
         odd.append(&mut script.unusual);
     }
-    assert_eq!(spoilt, BTreeSet::from(malformed::ALL));
-    assert_eq!(odd, BTreeSet::from(unusual::ALL));
+    assert_eq!(spoilt, malformed::ALL.iter().copied().collect::<BTreeSet<_>>());
+    assert_eq!(odd, unusual::ALL.iter().copied().collect::<BTreeSet<_>>());
 }
 
 fn met(fits: impl Fn(&Script) -> bool) -> bool {

@@ -34,7 +34,7 @@ fn reply(program: &mut Program, line: &[u8]) -> String {
 fn malformed_lines_are_bad_and_do_nothing() {
     on_open_cluster(|random, call, issue, program| {
         let before = program.cluster().cloned();
-        for kind in malformed::ALL {
+        for &kind in malformed::ALL {
             let line = kind.line(random, call, issue);
             assert!(!line.contains(&b'\n'), "{kind:?}");
             assert_eq!(reply(program, &line), "bad\n", "{kind:?}: {}", line.escape_ascii());
@@ -46,7 +46,7 @@ fn malformed_lines_are_bad_and_do_nothing() {
 #[test]
 fn unusual_lines_fit() {
     on_open_cluster(|random, call, issue, program| {
-        for kind in unusual::ALL {
+        for &kind in unusual::ALL {
             let line = kind.line(random, call, issue);
             assert_ne!(reply(program, &line), "bad\n", "{kind:?}: {}", line.escape_ascii());
         }

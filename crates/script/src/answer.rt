@@ -1,6 +1,6 @@
 // The answer to a line, on the cluster that the lines before it left.
 ghost use mathlib.Core.Path.{_≡_};
-ghost use mathlib.Core.Bool.{true};
+ghost use mathlib.Core.Bool.{true, false};
 ghost use Prim.Native.Nat.{_*_, _≤_};
 ghost use lib.ListN.{length};
 ghost use Rattle.crc32.specs.Tables.{tablesOf};
@@ -33,7 +33,9 @@ pub struct Next {
     pub held: Held,
 }
 
-pub fn nothing() -> Held {
+pub fn nothing() -> Held
+    ensures { λ h. ⌜ accepted (h .shape) ≡ false ⌝ }
+{
     Held {
         shape: Shape {
             replicas: 0,

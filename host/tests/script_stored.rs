@@ -22,9 +22,28 @@ fn stored_output_meets_every_refusal_in_reach() {
     }
 }
 
+/// Lines before the first accepted cluster line, the document's run, and a last line without newline.
 #[test]
-fn stored_input_starts_with_the_documents_run() {
+fn stored_input_begins_and_ends_so() {
     let stored = stored::bytes("crates/script/stdin");
-    assert!(stored.starts_with(b"cluster\t3\t4\ntake\t0\t0\nprep\t0\t0\t0\n"));
+    let start = b"take\t0\t0\ncluster\t2\t4\ncluster\t3\t4\ntake\t0\t0\nprep\t0\t0\t0\n";
+    assert!(stored.starts_with(start));
     assert!(stored.len() < 400_000 && !stored.ends_with(b"\n"));
+}
+
+/// Bytes that the proved program reads at once, and that it prints at once.
+const READ: usize = 65_536;
+const PRINTED: usize = 65_536;
+
+/// A line that is granted goes over the end of the first read, and the replies to what this read has
+/// are more than the program prints at once.
+#[test]
+fn stored_input_crosses_reads_and_fills_the_output() {
+    let stored = stored::bytes("crates/script/stdin");
+    let start = 1 + stored[..READ].iter().rposition(|&byte| byte == b'\n').expect("a newline");
+    assert!(stored[start..].starts_with(b"send\t0\t0\t0\n") && start < READ);
+    let replies = script::run(&stored[..start]);
+    assert!(replies.len() > PRINTED);
+    let last = script::run(&stored[..READ + 7]);
+    assert!(last[replies.len()..].starts_with(b"ok\t"));
 }

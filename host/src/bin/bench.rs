@@ -6,9 +6,11 @@
 use std::env;
 use std::fs::{self, File};
 use std::io::{self, Write};
-use std::path::Path;
+use std::path::{Path, PathBuf};
 use std::process::{Command, ExitCode, Stdio};
 use std::time::{Duration, Instant};
+
+use twin::script::LINE_LIMIT;
 
 /// How often each time is taken.
 const ROUNDS: usize = 5;
@@ -45,15 +47,21 @@ fn main() -> io::Result<ExitCode> {
         "Buffers are not cleared and caches are warm: each turn finds what the one before left."
     );
     println!("Least of {ROUNDS} rounds; a ratio below 1 says that the proved program is faster.\n");
-    println!("| job | proved | Rust | ratio |");
+    println!("| job | proved | Rust (or zlib) | ratio |");
     println!("|---|---|---|---|");
     for (name, what, count) in JOBS {
         print_job(&programs, name, what, count)?;
     }
     print_script(&programs)?;
     if let Some(zlib) = &programs.zlib {
-        let [time] = turn_times([zlib], "crc", JOBS[4].2)?;
-        println!("\nzlib's crc32 over the same 64 KB: {}", text(time));
+        let (name, what, count) = JOBS[4];
+        let [proved, zlib] = turn_times([&programs.jobs, zlib], name, count)?;
+        println!(
+            "| {what}, beside zlib | {} | {} | {:.2} |",
+            text(proved),
+            text(zlib),
+            proved / zlib
+        );
     }
     Ok(ExitCode::SUCCESS)
 }
@@ -91,15 +99,20 @@ fn print_script(programs: &Programs) -> io::Result<()> {
     Ok(())
 }
 
-/// A file with the stored input many times over, and how many lines it has.
-fn script_input() -> io::Result<(std::path::PathBuf, usize)> {
+/// A file with the stored input many times over, and how many lines it has. Empty lines and those
+/// that are too long for a form are left out: they ask for nothing.
+fn script_input() -> io::Result<(PathBuf, usize)> {
     let stored = Path::new(env!("CARGO_MANIFEST_DIR")).join("../crates/script/stdin");
-    let mut once = fs::read(stored)?;
+    let stored = fs::read(stored)?;
+    let lines: Vec<&[u8]> = stored
+        .split(|&byte| byte == b'\n')
+        .filter(|line| (1..=LINE_LIMIT).contains(&line.len()))
+        .collect();
+    let mut once = lines.join(&b'\n');
     once.push(b'\n');
-    let lines = once.iter().filter(|&&byte| byte == b'\n').count() * SCRIPT_TIMES;
     let path = env::temp_dir().join(format!("bench-script-{}", std::process::id()));
     fs::write(&path, once.repeat(SCRIPT_TIMES))?;
-    Ok((path, lines))
+    Ok((path, lines.len() * SCRIPT_TIMES))
 }
 
 /// The seconds of one turn of a job, by each program; they must answer alike.

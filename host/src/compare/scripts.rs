@@ -32,7 +32,7 @@ pub fn script(seed: u64) -> Script {
     let mut writer = Writer::new(random);
     match random.below(32) {
         0 => {}
-        1 => (0..1 + random.below(300)).for_each(|_| writer.line(b"")),
+        1 => writer.empty_lines(random),
         2 => writer.before_cluster(random),
         3 | 4 => writer.runs(random, LARGE),
         _ => writer.runs(random, 1),
@@ -78,6 +78,12 @@ impl Writer {
         let mut reply = Vec::new();
         self.program.feed(&self.input[start..], &mut reply);
         self.since_ok = if reply.starts_with(b"ok") { 0 } else { self.since_ok + 1 };
+    }
+
+    /// A few, or so many that the replies to one read are more than is printed at once.
+    fn empty_lines(&mut self, random: &mut Random) {
+        let most = *random.pick(&[300, 70_000]);
+        (0..1 + random.below(most)).for_each(|_| self.line(b""));
     }
 
     /// Lines before the first accepted cluster line, refused ones among them.

@@ -28,7 +28,8 @@ fn every_kind_of_reply() {
     let expected = MET.into_iter().map(Kind::No).chain([Kind::Ok, Kind::Silent, Kind::Bad]);
     let met: BTreeSet<Kind> = counts.replies.keys().copied().collect();
     assert_eq!(met, expected.collect());
-    assert!(counts.replies[&Kind::Ok] * 3 > counts.lines, "few calls get somewhere: {counts}");
+    let fitting = counts.lines - counts.replies[&Kind::Bad];
+    assert!(counts.replies[&Kind::Ok] * 3 > fitting, "few calls get somewhere: {counts}");
 }
 
 #[test]

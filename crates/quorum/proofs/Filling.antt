@@ -1,4 +1,4 @@
--- Demand 2: the counting rule decides a mark exactly when the absent marks cannot matter.
+-- Condition 2: the counting rule decides a mark exactly when the absent marks cannot matter.
 -- A mark D is decided exactly when every way of filling in the absent replicas' marks with 0 to N gives the same highest mark held by a
 -- majority of all R, and then that mark is D; it is undecided exactly when two ways give different marks.
 -- The filled-in side is stated over the list of the R marks alone. The statement comes first, then its proof; the theorem is `filling`.

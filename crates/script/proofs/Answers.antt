@@ -32,7 +32,7 @@ use Rattle.script.specs.Answers.{After, afterOf, unchanged, clusterOf, h
 
 -- ---- a cluster line, and a call: what was lent is the first n bytes
 
-sub-none : (n : ℕ) → n - 0 ≡ n
+pub sub-none : (n : ℕ) → n - 0 ≡ n
 sub-none n = omega arith
 
 module _ (m y : List ℕ) (n : ℕ) (k : length y ≡ n) where
@@ -85,7 +85,7 @@ cluster-line (cluster r′ n′) p m tables r n e =
     ap₂ (λ (x y : ℕ). clusterLine (record { replicas = x; places = y }) p m tables) a b
 cluster-line (asked c d l) p m tables r n e = let z : _≡_ {A = ℕ} 0 1 = cc e in absurd (omega arith)
 
-first-written : (ds x y : List ℕ) (n : ℕ) → n ≡ length ds → y ≡ writeAt 0 ds x → take n y ≡ ds
+pub first-written : (ds x y : List ℕ) (n : ℕ) → n ≡ length ds → y ≡ writeAt 0 ds x → take n y ≡ ds
 first-written ds x y n k e = ap₂ take k e ∙ part-write 0 ds x (omega arith)
 
 pub call-line : (w : Meaning) (p : Held) (m tables : List ℕ) (c : Call) (d l : ℕ) (x y u v : List ℕ) → line.Asked c d l ≡ lineOf w

@@ -1,5 +1,6 @@
 -- The answer to a line: what is printed, and the cluster after it. Document 01, "Script program".
 -- Assumes nothing.
+use mathlib.Core.Path.{_≡_}
 use mathlib.Core.List.{List, []}
 use mathlib.Core.Bool.{cond}
 use Prim.Native.Nat.{ℕ, _*_}
@@ -64,3 +65,7 @@ unfoldable pub answerTo : Meaning → Held → List ℕ → List ℕ → After
 answerTo bad p m tables = unchanged (textOf printed.Bad) p m tables
 answerTo (cluster r n) p m tables = clusterLine (record { replicas = r; places = n }) p m tables
 answerTo (asked c content locks) p m tables = callLine (inputOf c content locks) p m tables
+
+-- what the program holds when a line was answered
+abbrev pub Leaves : After → Held → List ℕ → List ℕ → Type 0
+Leaves a p m tables = (a .held ≡ p) × (a .media ≡ m) × (a .tables ≡ tables)

@@ -1,7 +1,7 @@
 -- Which cluster lines are accepted, and the sizes of what the program holds. Document 01: "R = 1, 3, 5 or 7", "It takes N up to 100 and answers no 1 above that".
 -- Assumes nothing.
 use mathlib.Core.Path.{_≡_}
-use mathlib.Core.Bool.{Bool, _&&_, _||_}
+use mathlib.Core.Bool.{Bool, cond, _&&_, _||_}
 use Prim.Native.Nat.{ℕ, _*_}
 use lib.Dec.{eqb, leb}
 use Rattle.storage.specs.Sizes.{mediumSize}
@@ -22,6 +22,10 @@ tablesLength = 4 * tableSize
 -- replies that are printed at once
 abbrev pub outLimit : ℕ
 outLimit = 65536
+
+-- where the next reply goes, behind o bytes of others: behind them while the longest reply fits there, else they are printed and it is the first
+abbrev pub roomAt : ℕ → ℕ
+roomAt o = cond (leb o 65512) o 0
 
 -- one byte more than a line may have
 abbrev pub lineRoom : ℕ

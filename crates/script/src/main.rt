@@ -1,15 +1,20 @@
 // The script program: reads lines of calls from standard input and prints a reply to each. What a line asks for, the calls, a fresh
 // cluster and the text of a reply are proved (lines, journal, fresh); this is the loop around them.
 ghost use mathlib.Core.Path.{_≡_};
-ghost use Prim.Native.Nat.{_≤_};
-ghost use lib.ListN.{length};
+ghost use Prim.Native.Nat.{_+_, _≤_};
+ghost use lib.ListN.{length, take};
+ghost use Rattle.octets.specs.Octets.{writeAt};
 ghost use Rattle.crc32.specs.Tables.{tablesOf};
-ghost use Rattle.script.specs.Shapes.{lineRoom, outLimit, Lent};
+ghost use Rattle.lines.specs.Forms.{meaningOf};
+ghost use Rattle.lines.specs.Texts.{textOf};
+ghost use Rattle.script.specs.Shapes.{lineRoom, outLimit, roomAt, Lent};
+ghost use Rattle.script.specs.Answers.{answerTo, Leaves};
 use crate::answer::Held;
 use crc32::Tables;
 use libc::STDIN_FILENO;
 use libc::STDOUT_FILENO;
 use lines::replies;
+use lines::replies::LONGEST;
 
 mod answer;
 mod input;
@@ -45,6 +50,7 @@ fn print(out: &[u8], o: usize)
 fn make_room(out: &[u8], o: usize) -> usize
     requires { ⌜ o ≤ length (now out) ⌝ }
     ensures { λ r. ⌜ r ≤ 65512 ⌝ }
+    ensures { λ r. ⌜ r ≡ roomAt o ⌝ }
 {
     if o <= FULL {
         return o;
@@ -58,8 +64,12 @@ fn put(out: &mut [u8], o: usize, printed: replies::Printed) -> usize
     requires { ⌜ length (now out) ≡ outLimit ⌝ }
     requires { ⌜ o ≤ 65512 ⌝ }
     ensures { λ r. ⌜ r ≤ outLimit ⌝ }
+    ensures { λ r. ⌜ r ≡ o + length (textOf printed) ⌝ }
+    ensures { λ _. ⌜ now (out .exit) ≡ writeAt o (textOf printed) (now (out .entry)) ⌝ }
 {
-    let k = replies::print(&mut out[o..OUT], printed);
+    let mut text = [0u8; LONGEST];
+    let k = replies::print(&mut text, printed);
+    octets::put(out, o, &text[0..k]);
     o + k
 }
 
@@ -76,6 +86,8 @@ fn reply(
     requires { ⌜ Lent (length (now m)) (length (now tables)) (length (now line)) (length (now out)) ⌝ }
     requires { ⌜ (s .n ≤ lineRoom) × (s .o ≤ outLimit) ⌝ }
     ensures { λ r. ⌜ (r .n ≡ 0) × (r .o ≤ outLimit) ⌝ }
+    ensures { λ r. ⌜ Leaves (answerTo (meaningOf (take (s .n) (now (line .entry)))) (s .held) (now (m .entry)) (now (tables .entry))) (r .held) (now (m .exit)) (now (tables .exit)) ⌝ }
+    ensures { λ _. ⌜ now (out .exit) ≡ writeAt (roomAt (s .o)) (answerTo (meaningOf (take (s .n) (now (line .entry)))) (s .held) (now (m .entry)) (now (tables .entry)) .text) (now (out .entry)) ⌝ }
 {
     let n = s.n;
     let before = s.held;

@@ -1,2 +1,3 @@
 pub mod Shapes
 pub mod Answers
+pub mod Input

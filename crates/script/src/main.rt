@@ -9,6 +9,7 @@ ghost use Rattle.lines.specs.Forms.{meaningOf};
 ghost use Rattle.lines.specs.Texts.{textOf};
 ghost use Rattle.script.specs.Shapes.{lineRoom, outLimit, roomAt, Lent};
 ghost use Rattle.script.specs.Answers.{answerTo, Leaves};
+ghost use Rattle.script.specs.Input.{fed, programOf};
 use crate::answer::Held;
 use crc32::Tables;
 use libc::STDIN_FILENO;
@@ -116,6 +117,7 @@ fn feed(
     requires { ⌜ Lent (length (now m)) (length (now tables)) (length (now line)) (length (now out)) ⌝ }
     requires { ⌜ (s .n ≤ lineRoom) × (s .o ≤ outLimit) ⌝ }
     ensures { λ r. ⌜ (r .n ≤ lineRoom) × (r .o ≤ outLimit) ⌝ }
+    ensures { λ r. ⌜ programOf (r .n) (r .held) (now (line .exit)) (now (m .exit)) (now (tables .exit)) ≡ fed (programOf (s .n) (s .held) (now (line .entry)) (now (m .entry)) (now (tables .entry))) (now (chunk .entry)) ⌝ }
 {
     let mut state = s;
     let mut i = 0;

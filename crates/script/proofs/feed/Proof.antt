@@ -1,20 +1,24 @@
 -- `feed`. The invariant: what is lent keeps its sizes, and what is held of a line and of replies fits. The measure is what is left of the bytes.
 -- Assumes nothing.
-use Prim.Native.Nat.{_-_, _≤_}
-use lib.ListN.{length}
+use mathlib.Core.Path.{_≡_, refl, sym, _∙_}
+use Prim.Native.Nat.{_-_, _≤_, _<_}
+use native.Mathlib.Omega.{arith}
+use lib.ListN.{length, drop}
 use Rattle.script.specs.Shapes.{lineRoom, outLimit, Lent}
+use Rattle.script.specs.Input.{fed, programOf}
+use Rattle.script.proofs.Fed.{fed-none, end-turn, line-turn}
 use borrow.Author.Needs.{needs}
 use Rattle.script.proofs.feed.Statement.{statement}
 use Rattle.script.proofs.feed.Tie as tie
 
 abbrev Inv-loop : tie.InvT-loop
-Inv-loop t chunk m₀ tables₀ line₀ out₀ state₀ i₀ m tables line out state i = Lent (length m) (length tables) (length line) (length out) × (state .n ≤ lineRoom) × (state .o ≤ outLimit)
+Inv-loop t chunk m₀ tables₀ line₀ out₀ state₀ i₀ m tables line out state i = Lent (length m) (length tables) (length line) (length out) × (state .n ≤ lineRoom) × (state .o ≤ outLimit) × (i ≤ length chunk) × (fed (programOf (state₀ .n) (state₀ .held) line₀ m₀ tables₀) chunk ≡ fed (programOf (state .n) (state .held) line m tables) (drop i chunk))
 
 abbrev μ-loop : tie.MeasureT-loop
 μ-loop t chunk m₀ tables₀ line₀ out₀ state₀ i₀ m tables line out state i = length chunk - i
 
 loop-holds : tie.Need-loop-holds Inv-loop μ-loop
-loop-holds c = search needs
+loop-holds c = (search needs, search needs, search needs, search needs, refl)
 
 find-requires : tie.Need-find-requires Inv-loop μ-loop
 find-requires c κs = search needs
@@ -44,7 +48,17 @@ same-length-4 : tie.Need-same-length-4 Inv-loop μ-loop
 same-length-4 c = search needs
 
 returns : tie.Need-returns Inv-loop μ-loop
-returns c = search needs
+returns c =
+    let a = c .before .before .before .before .before .before .before .before .before .before .before .before .before .before .args in
+    let l = c .before .before .before .before .before .before .before .before .loop in
+    let f = c .before .before .before .before .before .before .find in
+    let k = c .before .before .before .keep in (
+      (search needs, search needs),
+      sym
+          (l .inv .4
+          ∙ end-turn (a .chunk .now) (l .i) (f .result) (l .inv .3) (f .ensures .0) (l .state .n) (k .result) (l .state .held) (l .line) (k .last .0) (l .m) (l .tables) (l .inv .0 .line)
+          (search needs) (k .ensures .1 .0) (k .ensures .1 .1) (c .if1 .taken)),
+    )
 
 add-i : tie.Need-add-i Inv-loop μ-loop
 add-i c = search needs
@@ -60,7 +74,20 @@ loop-less : tie.Need-loop-less Inv-loop μ-loop
 loop-less c = search needs
 
 loop-again : tie.Need-loop-again Inv-loop μ-loop
-loop-again c = search needs
+loop-again c =
+    let l = c .before .before .before .before .before .before .before .before .before .before .before .before .before .before .before .before .before .before .before .loop in
+    let f = c .before .before .before .before .before .before .before .before .before .before .before .before .before .before .before .before .before .find in
+    let k = c .before .before .before .before .before .before .before .before .before .before .before .before .before .before .keep in
+    let r = c .before .before .before .before .before .before .reply in
+    let x : f .result < length (c .before .before .before .before .before .before .before .before .before .before .before .before .before .before .before .before .before .before .before .before .before .before .before .before .before .args .chunk .now) = omega (arith, c .before .before .before .before .before .before .before .before .before .before .before .if1 .left, f .ensures .1) in (
+      search needs,
+      search needs,
+      search needs,
+      omega (arith, x),
+      l .inv .4
+          ∙ line-turn (c .before .before .before .before .before .before .before .before .before .before .before .before .before .before .before .before .before .before .before .before .before .before .before .before .before .args .chunk .now) (l .i) (f .result) (l .inv .3) (f .ensures .0) (l .state .n) (k .result) (l .state .held) (l .line) (k .last .0) (l .m) (l .tables) (l .inv .0 .line)
+          (search needs) (k .ensures .1 .0) (k .ensures .1 .1) (r .result .n) (r .result .held) (r .last .1 .1 .0) (r .last .1 .1 .1 .0) x (r .ensures .0 .0) (r .ensures .1 .0),
+    )
 
 same-length-5 : tie.Need-same-length-5 Inv-loop μ-loop
 same-length-5 c = search needs
@@ -75,7 +102,9 @@ same-length-8 : tie.Need-same-length-8 Inv-loop μ-loop
 same-length-8 c = search needs
 
 returns-2 : tie.Need-returns-2 Inv-loop μ-loop
-returns-2 c = search needs
+returns-2 c =
+    let l = c .before .loop in
+    ((search needs, search needs), sym (l .inv .4 ∙ fed-none (programOf (l .state .n) (l .state .held) (l .line) (l .m) (l .tables)) _ (l .i) (c .loop-test .left)))
 
 pub feed-spec : {M : Type 1} → statement M
 feed-spec =

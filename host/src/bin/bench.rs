@@ -15,13 +15,13 @@ use twin::script::LINE_LIMIT;
 /// How often each time is taken.
 const ROUNDS: usize = 5;
 
-/// A job, what it does, and how many turns take some tenths of a second.
+/// A job, what it does, and how many turns take about a second, several times what its set-up takes.
 const JOBS: [(&str, &str, u64); 5] = [
-    ("marks", "mark of seven full media of 1,000 places", 1_000),
-    ("send", "one send to a replica that holds 999 of 1,000", 10_000),
-    ("prepare", "one prepare that truncates 1,000 places to 500", 5_000),
-    ("open", "one open of seven replicas at N = 1,000", 400_000),
-    ("crc", "CRC-32 of 64 KB", 10_000),
+    ("marks", "mark of seven full media of 1,000 places", 5_000),
+    ("send", "one send to a replica that holds 999 of 1,000", 30_000),
+    ("prepare", "one prepare that truncates 1,000 places to 500", 30_000),
+    ("open", "one open of seven replicas at N = 1,000", 2_000_000),
+    ("crc", "CRC-32 of 64 KB", 30_000),
 ];
 
 /// How often the script program's stored input is repeated.

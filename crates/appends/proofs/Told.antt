@@ -23,8 +23,8 @@ use Rattle.cluster.specs.Effects.{Result, appendEffect}
 use Rattle.cluster.specs.Step.{unless}
 use Rattle.replica.specs.declared.Heard.{Heard}
 use Rattle.replica.specs.Messages.{told, appendTold}
-use Rattle.admit.proofs.Sizes.{neither}
-use Rattle.admit.specs.Results.{stateOf, inputOf, resultOf, declinedOf}
+use Rattle.checks.proofs.Sizes.{neither}
+use Rattle.checks.specs.Results.{stateOf, inputOf, resultOf, declinedOf}
 use Rattle.hearing.specs.Stages.{unlessAbove, beyond}
 use Rattle.hearing.specs.Hearing.{onHeard}
 use Rattle.hearing.proofs.Hearing.{lent, back, lent-is, back-is, told-result}

@@ -14,7 +14,7 @@ use cluster::put_server;
 use crc32::Tables;
 use fate::Fate;
 use std::num::wrapping_add_u64;
-use storage::replica::Closing;
+use storage::operation::Closing;
 
 // The CRC of 64 KB.
 pub fn crc(t: &Tables, m: &mut [u8], count: u64) -> u64

@@ -1,6 +1,6 @@
 // Work to be timed from outside. Each line of standard input names a job and how often it is done; the answer to it is one number that
 // depends on every turn. Setting the job up takes the same time whatever the count, so the time of one turn is found by two counts.
-// What stdout must equal comes from the other implementation (host/src/jobs.rs), which does the same jobs.
+// What stdout must equal comes from the other implementation (twin/src/jobs.rs), which does the same jobs.
 ghost use mathlib.Core.Path.{_≡_};
 ghost use Prim.Native.Nat.{_≤_};
 ghost use lib.ListN.{length};

@@ -11,8 +11,8 @@ use Rattle.fate.specs.declared.Left.{Left}
 use Rattle.fate.specs.declared.Left.the-variants.{Old, New, Torn}
 use Rattle.storage.specs.declared.slot.Current.{Current}
 use Rattle.storage.specs.declared.slot.Current.the-variants.{First, Second, Neither}
-use Rattle.storage.specs.declared.replica.Closing.{Closing}
-use Rattle.storage.specs.declared.replica.Closing.the-variants.{Unresolved, Mark}
+use Rattle.storage.specs.declared.operation.Closing.{Closing}
+use Rattle.storage.specs.declared.operation.Closing.the-variants.{Unresolved, Mark}
 use Rattle.storage.specs.Sizes.{dataLimit, mediumSize}
 use Rattle.storage.specs.Slots.{currentOf, storedSlot}
 use Rattle.storage.specs.Log.{markOf}

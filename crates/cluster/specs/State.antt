@@ -5,7 +5,7 @@ use mathlib.Core.List.{List, [], _++_}
 use mathlib.Core.Bool.{Bool, false, not, _&&_}
 use lib.ListN.{getD, set, replicate}
 use Rattle.octets.specs.Octets.{part, writeAt}
-use Rattle.storage.specs.declared.replica.Closing.the-variants.{Unresolved}
+use Rattle.storage.specs.declared.operation.Closing.the-variants.{Unresolved}
 use Rattle.storage.specs.Sizes.{placeSize}
 use Rattle.storage.specs.Fresh.{freshMedium}
 use Rattle.cluster.specs.declared.Shape.{Shape}

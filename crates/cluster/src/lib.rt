@@ -3,7 +3,7 @@ ghost use mathlib.Core.Path.{_≡_};
 ghost use Prim.Native.Nat.{_<_};
 ghost use Rattle.cluster.specs.State.{idleServer, putServer};
 use fate::Fate;
-use storage::replica::Closing;
+use storage::operation::Closing;
 
 // R, the number of replicas, and N, the places of each medium.
 pub struct Shape {

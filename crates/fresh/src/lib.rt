@@ -11,7 +11,7 @@ use cluster::Records;
 use cluster::Register;
 use cluster::Shape;
 use crc32::Tables;
-use storage::replica::Closing;
+use storage::operation::Closing;
 use storage::sizes::PLACE;
 use storage::sizes::SLOT;
 use storage::sizes::SLOTS;

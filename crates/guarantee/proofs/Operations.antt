@@ -17,8 +17,8 @@ use Rattle.fate.specs.declared.Fate.the-variants.{Answered}
 use Rattle.fate.specs.Fates.{Write, allOf, after}
 use Rattle.fate.specs.Numbered.{effectOf}
 use Rattle.storage.specs.declared.slot.Slot.{Slot}
-use Rattle.storage.specs.declared.replica.Closing.{Closing}
-use Rattle.storage.specs.declared.replica.Closing.the-variants.{Unresolved, Mark}
+use Rattle.storage.specs.declared.operation.Closing.{Closing}
+use Rattle.storage.specs.declared.operation.Closing.the-variants.{Unresolved, Mark}
 use Rattle.storage.specs.Places.{validPlace}
 use Rattle.storage.specs.Slots.{storedSlot, FittingSlot}
 use Rattle.storage.specs.Log.{logOf, markOf, Sound}

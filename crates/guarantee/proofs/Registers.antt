@@ -10,8 +10,8 @@ use borrow.Author.Tests.{eqb-true, eq-eqb}
 use Rattle.base.specs.Below.{all}
 use Rattle.base.proofs.Tests.{both}
 use Rattle.base.proofs.Below.{all-at, upTo-length, upTo-at}
-use Rattle.storage.specs.declared.replica.Closing.{Closing}
-use Rattle.storage.specs.declared.replica.Closing.the-variants.{Unresolved, Mark}
+use Rattle.storage.specs.declared.operation.Closing.{Closing}
+use Rattle.storage.specs.declared.operation.Closing.the-variants.{Unresolved, Mark}
 use Rattle.protocol.specs.Columns.{upd}
 use Rattle.protocol.proofs.Columns.{upd-same, upd-elim}
 use Rattle.cluster.specs.declared.Entry.{Entry}

@@ -26,13 +26,13 @@ use Rattle.cluster.specs.Refusals.{Input, entriesFit, serverFits, markAbove, se
 use Rattle.cluster.specs.Effects.{Result}
 use Rattle.cluster.specs.Step.{unless, step}
 use Rattle.cluster.proofs.Rows.{firstOf-append, Passed, passed}
-use Rattle.admit.specs.declared.Check.{Check}
-use Rattle.admit.specs.declared.Check.the-variants.{Pass, Refuse}
-use Rattle.admit.specs.declared.Phases.{Phases}
-use Rattle.admit.specs.Checks.{verdictOf, allows}
-use Rattle.admit.specs.Results.{stateOf, resultOf, declinedOf}
-use Rattle.admit.proofs.Sizes.{within}
-use Rattle.admit.proofs.Outer.{admitRows, admitted}
+use Rattle.checks.specs.declared.Check.{Check}
+use Rattle.checks.specs.declared.Check.the-variants.{Pass, Refuse}
+use Rattle.checks.specs.declared.Phases.{Phases}
+use Rattle.checks.specs.Checks.{verdictOf, allows}
+use Rattle.checks.specs.Results.{stateOf, resultOf, declinedOf}
+use Rattle.checks.proofs.Sizes.{within}
+use Rattle.checks.proofs.Outer.{admitRows, admitted}
 use Rattle.hearing.specs.Stages.{unlessAbove, beyond, Named}
 
 -- the tests of numbers n + 1 to n + m, then the others

@@ -12,13 +12,13 @@ ghost use Rattle.storage.specs.Operations.{mediumAt};
 ghost use Rattle.cluster.specs.State.{activeAt, markAt};
 ghost use Rattle.cluster.specs.Refusals.{leftPasses, unfit, row, firstOf};
 ghost use Rattle.cluster.specs.Effects.{withReplica, heard, unheard};
-ghost use Rattle.admit.specs.Checks.{verdictOf};
+ghost use Rattle.checks.specs.Checks.{verdictOf};
 ghost use Rattle.hearing.specs.Hearing.{onHeard, marked, unmarked};
-use admit::Check;
-use admit::also;
-use admit::declined;
-use admit::silent;
-use admit::value;
+use checks::Check;
+use checks::also;
+use checks::declined;
+use checks::silent;
+use checks::value;
 use cluster::Outcome;
 use cluster::Phase;
 use cluster::Records;
@@ -41,7 +41,7 @@ fn left_passes(l: Left, given: &[u8; 64], places: u64) -> bool
         Left::New => false,
         Left::Torn => {
             let t = crc32::tables();
-            storage::replica::given_pass(&t, given, places)
+            storage::operation::given_pass(&t, given, places)
         }
     }
 }

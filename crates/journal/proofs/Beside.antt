@@ -11,7 +11,7 @@ use Rattle.cluster.specs.Refusals.{Input, Verdict, firstOf}
 use Rattle.cluster.specs.Effects.{Result}
 use Rattle.cluster.specs.Step.{effect, unless, step}
 use Rattle.cluster.proofs.Rows.{ownRows, own-rows}
-use Rattle.admit.specs.Results.{inputOf}
+use Rattle.checks.specs.Results.{inputOf}
 
 agree : (h : Shape) (x : State) (p q : Input) → firstOf (ownRows h x p (p .call)) ≡ firstOf (ownRows h x q (q .call)) → effect h x p (p .call) ≡ effect h x q (q .call)
     → step h x p ≡ step h x q

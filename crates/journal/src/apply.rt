@@ -1,7 +1,7 @@
 // Any of the eleven calls: the list of which the guarantee speaks is a list of these.
 ghost use mathlib.Core.Path.{_≡_};
 ghost use Rattle.cluster.specs.Step.{step};
-ghost use Rattle.admit.specs.Results.{stateOf, resultOf};
+ghost use Rattle.checks.specs.Results.{stateOf, resultOf};
 use cluster::Call;
 use cluster::Outcome;
 use cluster::Records;
@@ -20,11 +20,11 @@ pub fn apply(
     ensures { λ o. ⌜ resultOf o (now (media .exit)) (now (tables .exit)) ≡ step shape (stateOf records (now (media .entry)) (now (tables .entry))) (record { call = call; content = now (content .entry); locks = now (locks .entry); given = now (given .entry) }) ⌝ }
 {
     match call {
-        Call::Take(s, f) => register::take::take(shape, records, media, tables, s, f),
+        Call::Take(s, f) => register_calls::take::take(shape, records, media, tables, s, f),
         Call::Prepare(s, i, f) => messages::prepare(shape, records, media, tables, s, i, f, given),
         Call::Copy(s, a, b, f) => appends::copy(shape, records, media, tables, s, a, b, f, given),
         Call::Trim(s, i, f) => messages::trim(shape, records, media, tables, s, i, f, given),
-        Call::Open(s, f) => register::open::open(shape, records, media, tables, s, f),
+        Call::Open(s, f) => register_calls::open::open(shape, records, media, tables, s, f),
         Call::Issue(s, q) => local_calls::issue::issue(
             shape,
             records,

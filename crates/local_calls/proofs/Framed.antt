@@ -25,14 +25,14 @@ use Rattle.cluster.specs.Refusals.{Input, entriesFit, serverFits, markAbove, is
 use Rattle.cluster.specs.Effects.{Result}
 use Rattle.cluster.specs.Step.{effect, unless, step}
 use Rattle.cluster.proofs.Rows.{ownRows, passed}
-use Rattle.admit.specs.declared.Check.{Check}
-use Rattle.admit.specs.declared.Check.the-variants.{Pass, Refuse}
-use Rattle.admit.specs.declared.Phases.{Phases}
-use Rattle.admit.specs.Checks.{verdictOf, allows}
-use Rattle.admit.specs.Results.{stateOf, inputOf, resultOf, declinedOf}
-use Rattle.admit.proofs.Sizes.{within}
-use Rattle.admit.proofs.Outer as outer
-use Rattle.admit.proofs.Outer.{admitRows, frontRows, admitted}
+use Rattle.checks.specs.declared.Check.{Check}
+use Rattle.checks.specs.declared.Check.the-variants.{Pass, Refuse}
+use Rattle.checks.specs.declared.Phases.{Phases}
+use Rattle.checks.specs.Checks.{verdictOf, allows}
+use Rattle.checks.specs.Results.{stateOf, inputOf, resultOf, declinedOf}
+use Rattle.checks.proofs.Sizes.{within}
+use Rattle.checks.proofs.Outer as outer
+use Rattle.checks.proofs.Outer.{admitRows, frontRows, admitted}
 use Rattle.local_calls.specs.declared.issue.Limits.{Limits}
 use Rattle.local_calls.specs.Requests.{requestRows, Admitted}
 

@@ -13,11 +13,11 @@ ghost use Rattle.cluster.specs.State.{tableSize, serverAt, tableAt};
 ghost use Rattle.cluster.specs.Refusals.{firstOf, andThen};
 ghost use Rattle.cluster.specs.Effects.{issuedFields, issuedServer, issueEffect};
 ghost use Rattle.cluster.specs.Step.{unless, step};
-ghost use Rattle.admit.specs.Checks.{verdictOf};
-ghost use Rattle.admit.specs.Results.{stateOf, resultOf};
+ghost use Rattle.checks.specs.Checks.{verdictOf};
+ghost use Rattle.checks.specs.Results.{stateOf, resultOf};
 ghost use Rattle.local_calls.specs.Requests.{lockRow, requestRows, Admitted};
-use admit::Check;
-use admit::Phases;
+use checks::Check;
+use checks::Phases;
 use cluster::Outcome;
 use cluster::Records;
 use cluster::Refusal;
@@ -82,15 +82,15 @@ fn judge(
     requires { ⌜ length (now table) ≡ tableSize ⌝ }
     ensures { λ k. ⌜ verdictOf k ≡ firstOf (requestRows limits places s request size (now (table .entry)) (now (locks .entry))) ⌝ }
 {
-    let k = admit::also(
+    let k = checks::also(
         Check::Pass,
         request.generation != s.generation,
         Refusal::OtherGeneration,
     );
-    let k = admit::also(k, s.acked < request.mark, Refusal::ClientAhead);
-    let k = admit::also(k, exceeds(limits, size, locks.len()), Refusal::TooMuch);
-    let k = admit::also(k, s.acked < s.issued, Refusal::Unacknowledged);
-    let k = admit::also(k, s.issued == places, Refusal::Full);
+    let k = checks::also(k, s.acked < request.mark, Refusal::ClientAhead);
+    let k = checks::also(k, exceeds(limits, size, locks.len()), Refusal::TooMuch);
+    let k = checks::also(k, s.acked < s.issued, Refusal::Unacknowledged);
+    let k = checks::also(k, s.issued == places, Refusal::Full);
     also_locks(k, table, locks, request.mark)
 }
 
@@ -145,7 +145,7 @@ fn grant(
     let at = i * TABLE;
     let end = at + TABLE;
     locks::mark_all(&mut tables[at..end], locks, next.issued);
-    admit::value(cluster::put_server(records, i, next), next.issued)
+    checks::value(cluster::put_server(records, i, next), next.issued)
 }
 
 // A request to an open server, with the limits that hold for it.
@@ -176,7 +176,7 @@ fn checked(
         locks,
     );
     if let Check::Refuse(why) = k {
-        return admit::declined(records, why);
+        return checks::declined(records, why);
     }
     grant(records, tables, i, request, content, locks)
 }
@@ -203,7 +203,7 @@ pub fn issue(
         bytes: storage::sizes::DATA_LIMIT,
         locks: LOCK_LIMIT,
     };
-    let k = admit::admit_call(
+    let k = checks::admit_call(
         shape,
         records,
         media.len(),
@@ -213,7 +213,7 @@ pub fn issue(
         phases,
     );
     match k {
-        Check::Refuse(why) => admit::declined(records, why),
+        Check::Refuse(why) => checks::declined(records, why),
         Check::Pass => checked(
             shape.places,
             limits,

@@ -28,8 +28,8 @@ use Rattle.cluster.specs.Effects.{Result, prepareEffect, trimEffect, noteEffect
 use Rattle.cluster.specs.Step.{unless}
 use Rattle.replica.specs.declared.Heard.{Heard}
 use Rattle.replica.specs.Messages.{Told, told, prepareTold, messageTold, trimTold, noteTold, readTold}
-use Rattle.admit.proofs.Sizes.{neither}
-use Rattle.admit.specs.Results.{stateOf, inputOf, resultOf, declinedOf}
+use Rattle.checks.proofs.Sizes.{neither}
+use Rattle.checks.specs.Results.{stateOf, inputOf, resultOf, declinedOf}
 use Rattle.hearing.specs.Stages.{unlessAbove, beyond}
 use Rattle.hearing.specs.Hearing.{onHeard, marked, unmarked}
 use Rattle.hearing.proofs.Hearing.{lent, back, lent-is, back-is, says-result, told-result, prepare-result}

@@ -13,8 +13,8 @@ use Rattle.fate.specs.declared.Fate.the-variants.{Answered, Lost, AnswerLost, C
 use Rattle.fate.specs.Fates.{Write, allOf, after}
 use Rattle.storage.specs.declared.slot.Slot.{Slot}
 use Rattle.storage.specs.declared.slot.Current.{Current}
-use Rattle.storage.specs.declared.replica.Closing.{Closing}
-use Rattle.storage.specs.declared.replica.Read.{Read}
+use Rattle.storage.specs.declared.operation.Closing.{Closing}
+use Rattle.storage.specs.declared.operation.Read.{Read}
 use Rattle.storage.specs.Slots.{currentOf, heldOf, storedSlot}
 use Rattle.storage.specs.Log.{markOf}
 use Rattle.storage.specs.Sizes.{placeSize, mediumSize}

@@ -13,9 +13,9 @@ use cluster::Refusal;
 use crc32::Tables;
 use fate::Fate;
 use storage::medium;
-use storage::replica;
-use storage::replica::Closing;
-use storage::replica::Read;
+use storage::operation;
+use storage::operation::Closing;
+use storage::operation::Read;
 use storage::slot::Current;
 
 // What a server hears of a message: nothing, why the replica declines, or the replica's mark after it.
@@ -125,13 +125,13 @@ pub fn prepare(m: &mut [u8], places: u64, session: u64, to: Closing, given: &[u8
     ensures { λ h. ⌜ told h (now (m .exit)) ≡ prepareTold places session to f (now (given .entry)) (now (m .entry)) ⌝ }
 {
     let t = crc32::tables();
-    let r = replica::read_medium(&t, m, places as usize);
+    let r = operation::read_medium(&t, m, places as usize);
     let j = judged_prepare(r, session);
     let h = j.heard;
     if j.declines {
         return under(f, h);
     }
-    replica::prepare(&t, m, r, session, to, given, f);
+    operation::prepare(&t, m, r, session, to, given, f);
     under(f, Heard::Mark(closed_mark(to, r.mark as u64)))
 }
 
@@ -149,13 +149,13 @@ pub fn trim(
     ensures { λ h. ⌜ told h (now (m .exit)) ≡ trimTold places session recorded to f (now (given .entry)) (now (m .entry)) ⌝ }
 {
     let t = crc32::tables();
-    let r = replica::read_medium(&t, m, places as usize);
+    let r = operation::read_medium(&t, m, places as usize);
     let j = judged(r, session, recorded);
     let h = j.heard;
     if j.declines {
         return under(f, h);
     }
-    replica::trim(m, r, to, given, f);
+    operation::trim(m, r, to, given, f);
     under(f, Heard::Mark(lesser(to, r.mark as u64)))
 }
 
@@ -173,13 +173,13 @@ pub fn note(
     ensures { λ h. ⌜ told h (now (m .exit)) ≡ noteTold places session recorded low f (now (given .entry)) (now (m .entry)) ⌝ }
 {
     let t = crc32::tables();
-    let r = replica::read_medium(&t, m, places as usize);
+    let r = operation::read_medium(&t, m, places as usize);
     let j = judged(r, session, recorded);
     let h = j.heard;
     if j.declines {
         return under(f, h);
     }
-    replica::note(&t, m, r, low, recorded, given, f);
+    operation::note(&t, m, r, low, recorded, given, f);
     under(f, Heard::Mark(r.mark as u64))
 }
 
@@ -211,13 +211,13 @@ pub fn append(
     ensures { λ h. ⌜ told h (now (m .exit)) ≡ appendTold places session recorded (now (src .entry)) f (now (given .entry)) (now (m .entry)) ⌝ }
 {
     let t = crc32::tables();
-    let r = replica::read_medium(&t, m, places as usize);
+    let r = operation::read_medium(&t, m, places as usize);
     let j = judged(r, session, recorded);
     let h = j.heard;
     if j.declines {
         return under(f, h);
     }
-    replica::append(m, r, src, given, f);
+    operation::append(m, r, src, given, f);
     under(f, Heard::Mark(mark_after(&t, m, places, r.mark, f)))
 }
 
@@ -227,7 +227,7 @@ pub fn read(m: &[u8], places: u64, session: u64, recorded: u64, f: Fate) -> Hear
     ensures { λ h. ⌜ told h (now (m .entry)) ≡ readTold places session recorded f (now (m .entry)) ⌝ }
 {
     let t = crc32::tables();
-    let r = replica::read_medium(&t, m, places as usize);
+    let r = operation::read_medium(&t, m, places as usize);
     let j = judged(r, session, recorded);
     let h = j.heard;
     if j.declines {
@@ -242,7 +242,7 @@ pub fn unfit(m: &[u8], places: u64, session: u64, recorded: u64) -> bool
     ensures { λ b. ⌜ b ≡ refuses places session recorded (now (m .entry)) ⌝ }
 {
     let t = crc32::tables();
-    let r = replica::read_medium(&t, m, places as usize);
+    let r = operation::read_medium(&t, m, places as usize);
     let j = judged(r, session, recorded);
     j.declines
 }

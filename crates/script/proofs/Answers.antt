@@ -20,7 +20,7 @@ use Rattle.cluster.specs.State.{State, fresh}
 use Rattle.cluster.specs.Replies.{ok, no}
 use Rattle.cluster.specs.Refusals.{Input}
 use Rattle.cluster.specs.Step.{step}
-use Rattle.admit.specs.Results.{resultOf}
+use Rattle.checks.specs.Results.{resultOf}
 use Rattle.lines.specs.declared.forms.Line.{Line}
 use Rattle.lines.specs.declared.forms.Line.the-variants as line
 use Rattle.lines.specs.declared.replies.Printed.the-variants as printed

@@ -30,8 +30,8 @@ use Rattle.fate.specs.Numbered.{effectOf, afterFrom}
 use Rattle.fate.proofs.Laws.{numbered, from-answered, from-one, from-append, stops, length-leave}
 use Rattle.storage.specs.declared.slot.Slot.{Slot}
 use Rattle.storage.specs.declared.slot.Current.{Current}
-use Rattle.storage.specs.declared.replica.Closing.{Closing}
-use Rattle.storage.specs.declared.replica.Closing.the-variants.{Unresolved, Mark}
+use Rattle.storage.specs.declared.operation.Closing.{Closing}
+use Rattle.storage.specs.declared.operation.Closing.the-variants.{Unresolved, Mark}
 use Rattle.storage.specs.Sizes.{slotSize, slotsSize, placeSize, mediumSize, placeOffset}
 use Rattle.storage.specs.Places.{validPlace, wiped}
 use Rattle.storage.specs.Slots.{slotBytes, validSlot, currentOf, storedSlot, otherAt, HasSlot, FittingSlot}

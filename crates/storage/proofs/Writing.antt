@@ -15,8 +15,8 @@ use Rattle.fate.proofs.Laws.{numbered, from-append, from-one}
 use Rattle.storage.specs.declared.slot.Slot.{Slot}
 use Rattle.storage.specs.declared.slot.Current.{Current}
 use Rattle.storage.specs.declared.slot.Current.the-variants.{First, Second, Neither}
-use Rattle.storage.specs.declared.replica.Closing.{Closing}
-use Rattle.storage.specs.declared.replica.Read.{Read}
+use Rattle.storage.specs.declared.operation.Closing.{Closing}
+use Rattle.storage.specs.declared.operation.Read.{Read}
 use Rattle.storage.specs.Slots.{currentOf, heldOf, storedSlot, otherAt}
 use Rattle.storage.specs.Log.{markOf}
 use Rattle.storage.specs.Operations.{slotWrite, placeWrite, wipes, promising, closing, prepareWrites, trimWrites, appendWrites, noteWrites}

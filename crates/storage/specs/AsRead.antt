@@ -4,7 +4,7 @@ use mathlib.Core.Path.{_≡_}
 use mathlib.Core.List.{List}
 use Prim.Native.Nat.{ℕ}
 use lib.ListN.{length}
-use Rattle.storage.specs.declared.replica.Read.{Read}
+use Rattle.storage.specs.declared.operation.Read.{Read}
 use Rattle.storage.specs.Sizes.{mediumSize}
 use Rattle.storage.specs.Slots.{currentOf, heldOf}
 use Rattle.storage.specs.Log.{markOf}

@@ -8,8 +8,8 @@ use Rattle.octets.specs.Octets.{part, writeAt}
 use Rattle.fate.specs.Fates.{Write}
 use Rattle.storage.specs.declared.slot.Slot.{Slot}
 use Rattle.storage.specs.declared.slot.Current.{Current}
-use Rattle.storage.specs.declared.replica.Closing.{Closing}
-use Rattle.storage.specs.declared.replica.Closing.the-variants.{Unresolved, Mark}
+use Rattle.storage.specs.declared.operation.Closing.{Closing}
+use Rattle.storage.specs.declared.operation.Closing.the-variants.{Unresolved, Mark}
 use Rattle.storage.specs.Sizes.{placeOffset, mediumSize}
 use Rattle.storage.specs.Places.{wiped}
 use Rattle.storage.specs.Slots.{slotBytes, currentOf, storedSlot, otherAt}

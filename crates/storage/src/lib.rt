@@ -1,5 +1,5 @@
 pub mod medium;
+pub mod operation;
 pub mod place;
-pub mod replica;
 pub mod sizes;
 pub mod slot;

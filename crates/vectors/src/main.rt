@@ -1,6 +1,6 @@
 // Runs stored vectors through the proved code of crc32, fate and storage. Standard input has a vector a line; the answer to each
 // is a line of standard output, or `bad` where a line has the form of none. The vectors, the form of each line and the answers
-// that stdout must equal come from the other implementation (host/src/vectors.rs; host's storage_vectors writes both files).
+// that stdout must equal come from the other implementation (twin/src/vectors.rs; the twin's storage_vectors writes both files).
 ghost use mathlib.Core.Path.{_≡_};
 ghost use Rattle.crc32.specs.Tables.{tablesOf};
 use crc32::Tables;

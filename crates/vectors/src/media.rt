@@ -12,8 +12,7 @@ use crate::operation::Operation;
 use crate::records;
 use crc32::Tables;
 use fate::Fate;
-use storage::replica;
-use storage::replica::Read;
+use storage::operation::Read;
 use storage::sizes::PLACE;
 use storage::sizes::SLOTS;
 use storage::slot::Current;
@@ -68,7 +67,7 @@ fn tell(t: &Tables, line: &[u8], places: usize, m: &mut [u8]) -> bool
     if !hex::read(line::field(line, 2), m) {
         return false;
     }
-    let r = replica::read_medium(t, m, places);
+    let r = storage::operation::read_medium(t, m, places);
     let c = r.current;
     let x = r.slot;
     print::number(r.mark as u64);
@@ -128,19 +127,19 @@ fn perform(
     requires { ⌜ length (now src) ≡ placeSize ⌝ }
     requires { ⌜ length (now given) ≡ placeSize ⌝ }
 {
-    let r = replica::read_medium(t, m, places);
+    let r = storage::operation::read_medium(t, m, places);
     match op {
         Operation::Prepare(session, to) => {
-            replica::prepare(t, m, r, session, to, given, f);
+            storage::operation::prepare(t, m, r, session, to, given, f);
             true
         }
         Operation::Append => append(m, r, src, given, f),
         Operation::Truncate(to) => {
-            replica::trim(m, r, to, given, f);
+            storage::operation::trim(m, r, to, given, f);
             true
         }
         Operation::Note(low, local) => {
-            replica::note(t, m, r, low, local, given, f);
+            storage::operation::note(t, m, r, low, local, given, f);
             true
         }
         Operation::Unfit => false,
@@ -156,6 +155,6 @@ fn append(m: &mut [u8], r: Read, src: &[u8], given: &[u8], f: Fate) -> bool
     if r.places <= r.mark {
         return false;
     }
-    replica::append(m, r, src, given, f);
+    storage::operation::append(m, r, src, given, f);
     true
 }

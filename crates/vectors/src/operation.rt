@@ -1,6 +1,6 @@
 // What a replica is asked to do, as a line says it.
 ghost use Prim.Native.Nat.{_≤_};
-use storage::replica::Closing;
+use storage::operation::Closing;
 use stored::hex;
 use text::line;
 use text::number;

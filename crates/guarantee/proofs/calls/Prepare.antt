@@ -8,8 +8,8 @@ use Prim.Native.Nat.{ℕ, _^_, _≤_, _<_}
 use native.Mathlib.Omega.{arith}
 use borrow.Author.Tests.{ltb-false}
 use Rattle.fate.specs.declared.Fate.{Fate}
-use Rattle.storage.specs.declared.replica.Closing.{Closing}
-use Rattle.storage.specs.declared.replica.Closing.the-variants.{Unresolved, Mark}
+use Rattle.storage.specs.declared.operation.Closing.{Closing}
+use Rattle.storage.specs.declared.operation.Closing.the-variants.{Unresolved, Mark}
 use Rattle.storage.specs.Slots.{storedSlot}
 use Rattle.storage.specs.Log.{markOf}
 use Rattle.storage.specs.Operations.{closedMark, mediumAt, withMedium, prepareWrites}

@@ -1,4 +1,4 @@
-use Rattle.admit.specs.Results.{stateOf}
+use Rattle.checks.specs.Results.{stateOf}
 use Rattle.journal.proofs.Beside.{applied}
 use borrow.Author.Needs.{needs}
 use Rattle.journal.proofs.apply.apply.Statement.{statement}

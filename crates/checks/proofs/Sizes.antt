@@ -1,0 +1,85 @@
+-- The cases of refusal 1, in the order in which the code tries them, and what a passed one says of sizes.
+-- Assumes nothing.
+use mathlib.Core.Path.{_≡_, refl}
+use mathlib.Core.Bool.{Bool, true, false, not, _&&_, _||_}
+use mathlib.Core.Logic.{_⊎_, ⊎-elim}
+use Prim.Native.Nat.{ℕ, _+_, _*_, _≤_, _<_, _^_}
+use native.Mathlib.Nat.{mul-le-mul}
+use native.Mathlib.Omega.{arith}
+use lib.Dec.{eqb, leb}
+use borrow.Author.Tests.{not-false, eqb-true, leb-true, lt-leb, le-leb, eq-eqb, ne-eqb}
+use Rattle.base.proofs.Tests.{both, either}
+use Rattle.storage.specs.Sizes.{mediumSize}
+use Rattle.cluster.specs.declared.Shape.{Shape}
+use Rattle.checks.specs.Checks.{replicasFit, outsideSizes}
+
+pub replicas-le : (r : ℕ) → replicasFit r ≡ true → r ≤ 7
+unfolding replicasFit
+replicas-le r h =
+    ⊎-elim
+    (λ a. ⊎-elim (λ b. ⊎-elim (λ c. omega (arith, eqb-true r 1 c)) (λ c. omega (arith, eqb-true r 3 c)) (either (eqb r 1) (eqb r 3) b)) (λ b. omega (arith, eqb-true r 5 b)) (either (eqb r 1 || eqb r 3) (eqb r 5) a))
+    (λ a. omega (arith, eqb-true r 7 a))
+    (either (eqb r 1 || eqb r 3 || eqb r 5) (eqb r 7) h)
+
+pub media-fit : (r n : ℕ) → r ≤ 7 → n ≤ 1000 → r * mediumSize n < 2 ^ 64
+media-fit r n hr hn =
+    let p : r * mediumSize n ≤ 7 * 64064 = mul-le-mul {n₂ = 7} {m₂ = 64064} hr (omega arith) in
+    omega arith
+
+module _ (h : Shape) (media tables : ℕ) where
+  pub out-replicas : replicasFit (h .replicas) ≡ false → true ≡ outsideSizes h media tables
+  unfolding outsideSizes
+  out-replicas e = rw e
+
+  module _ (fit : replicasFit (h .replicas) ≡ true) where
+    pub out-few : h .places < 1 → true ≡ outsideSizes h media tables
+    unfolding outsideSizes
+    out-few l = rw (fit, lt-leb 1 (h .places) l)
+
+    module _ (few : 1 ≤ h .places) where
+      pub out-many : 1000 < h .places → true ≡ outsideSizes h media tables
+      unfolding outsideSizes
+      out-many l = rw (fit, le-leb 1 (h .places) few, lt-leb (h .places) 1000 l)
+
+      module _ (most : h .places ≤ 1000) where
+        pub out-media : (media ≡ h .replicas * mediumSize (h .places) → ⊥) → true ≡ outsideSizes h media tables
+        unfolding outsideSizes
+        out-media ne = rw (fit, le-leb 1 (h .places) few, le-leb (h .places) 1000 most, ne-eqb media (h .replicas * mediumSize (h .places)) ne)
+
+        pub by-tables : media ≡ h .replicas * mediumSize (h .places) → not (eqb tables 4096) ≡ outsideSizes h media tables
+        unfolding outsideSizes
+        by-tables e = rw (fit, le-leb 1 (h .places) few, le-leb (h .places) 1000 most, eq-eqb media (h .replicas * mediumSize (h .places)) e)
+
+-- what a passed refusal 1 says
+pub record Within (h : Shape) (m t : ℕ) : Type 0 where
+  pub replicas : h .replicas ≤ 7
+  pub least : 1 ≤ h .places
+  pub most : h .places ≤ 1000
+  pub media : m ≡ h .replicas * mediumSize (h .places)
+  pub tables : t ≡ 4096
+
+pub neither : (a b : Bool) → (a || b) ≡ false → (a ≡ false) × (b ≡ false)
+neither true b e = let z : _≡_ {A = ℕ} 0 1 = cc in absurd (omega arith)
+neither false b e = (refl, e)
+
+pub within : (h : Shape) (media tables : ℕ) → outsideSizes h media tables ≡ false → Within h media tables
+unfolding outsideSizes
+within h media tables e =
+    let r = not (replicasFit (h .replicas)) in
+    let p = not (leb 1 (h .places) && leb (h .places) 1000) in
+    let m = not (eqb media (h .replicas * mediumSize (h .places))) in
+    let t = not (eqb tables (4 * 1024)) in
+    let e₃ = neither (r || p || m) t e in
+    let e₂ = neither (r || p) m (e₃ .0) in
+    let e₁ = neither r p (e₂ .0) in
+    let b = both (leb 1 (h .places)) (leb (h .places) 1000) (not-false _ (e₁ .1)) in
+    record {
+      replicas = replicas-le (h .replicas) (not-false _ (e₁ .0));
+      least = leb-true 1 (h .places) (b .0);
+      most = leb-true (h .places) 1000 (b .1);
+      media = eqb-true media (h .replicas * mediumSize (h .places)) (not-false _ (e₂ .1));
+      tables = eqb-true tables 4096 (not-false _ (e₃ .1));
+    }
+
+pub in-replicas : (h : Shape) (media tables : ℕ) → outsideSizes h media tables ≡ false → h .replicas ≤ 7
+in-replicas h media tables e = within h media tables e .replicas

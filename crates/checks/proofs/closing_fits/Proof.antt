@@ -1,0 +1,18 @@
+use borrow.Author.Needs.{needs}
+use Rattle.checks.proofs.closing_fits.Statement.{statement}
+use Rattle.checks.proofs.closing_fits.Tie as tie
+
+enum-told : tie.Need-enum-told
+enum-told c = search needs
+
+enum-known-c : tie.Need-enum-known-c
+enum-known-c c = search needs
+
+returns : tie.Need-returns
+returns c = search needs
+
+returns-2 : tie.Need-returns-2
+returns-2 c = rw (c .before .c .given .1)
+
+pub closing-fits-spec : {M : Type 1} → statement M
+closing-fits-spec = tie.close (tie.spec enum-told enum-known-c returns returns-2)

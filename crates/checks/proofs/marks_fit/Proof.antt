@@ -1,0 +1,58 @@
+use mathlib.Core.Path.{_≡_, ap, _∙_}
+use Prim.Native.Nat.{_-_, _≤_}
+use lib.Dec.{leb}
+use lib.ListN.{getD}
+use Rattle.base.specs.Below.{all}
+use Rattle.base.proofs.Below.{all-step}
+use Rattle.checks.specs.Checks.{belowFits}
+use native.Mathlib.Omega.{arith}
+use borrow.Author.Needs.{needs}
+use Rattle.checks.proofs.marks_fit.Statement.{statement}
+use Rattle.checks.proofs.marks_fit.Tie as tie
+
+abbrev Inv-loop : tie.InvT-loop
+Inv-loop shape marks ok₀ r i₀ ok i = (i ≤ r) × (ok ≡ all (λ j. leb (getD marks j 0) (shape .places)) i)
+
+abbrev μ-loop : tie.MeasureT-loop
+μ-loop shape marks ok₀ r i₀ ok i = r - i
+
+loop-holds : tie.Need-loop-holds Inv-loop μ-loop
+unfolding all
+loop-holds c = search needs
+
+mul-both : tie.Need-mul-both Inv-loop μ-loop
+mul-both c = search needs
+
+array-read-both : tie.Need-array-read-both Inv-loop μ-loop
+array-read-both c = search needs
+
+both-requires : tie.Need-both-requires Inv-loop μ-loop
+both-requires c κs = search needs
+
+add-i : tie.Need-add-i Inv-loop μ-loop
+add-i c = search needs
+
+loop-less : tie.Need-loop-less Inv-loop μ-loop
+loop-less c = search needs
+
+loop-again : tie.Need-loop-again Inv-loop μ-loop
+loop-again c = (search needs, all-step _ _ _ _ _ (c .before .before .before .loop .inv .1) (cc) (c .both .ensures))
+
+returns : tie.Need-returns Inv-loop μ-loop
+unfolding belowFits
+returns c = c .before .loop .inv .1 ∙ ap (all _) (omega arith)
+
+pub marks-fit-spec : {M : Type 1} → statement M
+marks-fit-spec =
+    tie.close
+    (tie.spec
+    Inv-loop
+    μ-loop
+    loop-holds
+    mul-both
+    array-read-both
+    both-requires
+    add-i
+    loop-less
+    loop-again
+    returns)

@@ -1,0 +1,12 @@
+use mathlib.Core.Path.{refl}
+use Prim.Native.Nat.{_^_}
+use Rattle.base.proofs.Tops.{top-is}
+use borrow.Author.Needs.{needs}
+use Rattle.register_calls.proofs.take.at_top.Statement.{statement}
+use Rattle.register_calls.proofs.take.at_top.Tie as tie
+
+returns : tie.Need-returns
+returns c = top-is 18446744073709551615 (2 ^ 64) refl (c .args .session)
+
+pub at-top-spec : {M : Type 1} → statement M
+at-top-spec = tie.close (tie.spec returns)

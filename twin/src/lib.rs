@@ -1,0 +1,30 @@
+//! The quorum journal of document 01 once more, in Rust: the other implementation that the proved
+//! one is compared with. Lowest layer first.
+
+pub mod crc;
+pub mod hex;
+pub mod random;
+
+pub mod medium;
+
+pub mod replica;
+
+pub mod fate;
+
+pub mod locks;
+pub mod votes;
+
+pub mod cluster;
+pub mod exported;
+
+pub mod script;
+
+pub mod vectors;
+
+pub mod compare;
+
+pub mod tries;
+
+pub mod replay;
+
+pub mod jobs;

@@ -1,0 +1,69 @@
+//! The list of states and calls of a run.
+
+use super::recorder::Recorder;
+use super::{random_states, scenes, useful, Run};
+use crate::cluster::{Call, Shape};
+use crate::random::Random;
+use crate::tries::caller::Caller;
+
+/// R and N of the fresh clusters.
+const SHAPES: [(u64, u64); 12] = [
+    (1, 3),
+    (3, 1),
+    (3, 4),
+    (5, 2),
+    (3, 14),
+    (7, 3),
+    (5, 6),
+    (7, 8),
+    (3, 8),
+    (5, 12),
+    (7, 14),
+    (1, 14),
+];
+
+/// Lists of calls from a fresh cluster of each shape, and calls of each list.
+const LISTS: u64 = 3;
+const CALLS: u64 = 100;
+
+pub fn replay(random: &mut Random) -> Run {
+    let mut recorder = Recorder::new();
+    bad_lines(&mut recorder);
+    scenes::replay(&mut recorder, random);
+    for (replicas, places) in (0..LISTS).flat_map(|_| SHAPES) {
+        list(&mut recorder, random, Shape { replicas, places });
+    }
+    random_states::replay(&mut recorder, random);
+    recorder.finish()
+}
+
+/// Calls before anything is handed in, and lines that fit no form.
+fn bad_lines(recorder: &mut Recorder) {
+    recorder.call(&Call::Reassign).expect_err("no shape yet");
+    let lines = [
+        "",
+        "stop",
+        "stop\t0\t0",
+        "stop\t18446744073709551616",
+        "take\t0\t4\t0\t0",
+        "take\t0\t3\t1\t3",
+        "register\t1\t4294967296",
+        "entry\t7\t1\t0\t0",
+        "server\t4\t0\t0\t0\t0\t0\t0",
+        "given\t00",
+        "data\tA",
+        "lend\t7169\t4096",
+        "Stop\t0",
+    ];
+    lines.iter().for_each(|line| recorder.bad(line));
+}
+
+/// Calls that get somewhere, from a fresh cluster.
+fn list(recorder: &mut Recorder, random: &mut Random, shape: Shape) {
+    recorder.fresh(shape);
+    let caller = Caller::new(random);
+    for _ in 0..CALLS {
+        let call = useful::next_call(random, &caller, recorder.cluster());
+        let _ = recorder.call(&call);
+    }
+}

@@ -1,0 +1,83 @@
+//! Random states that are handed in.
+
+use super::recorder::Recorder;
+use super::useful;
+use crate::cluster::{Cluster, Phase, Records, Shape};
+use crate::medium;
+use crate::random::Random;
+use crate::tries::caller::Caller;
+use crate::tries::scene::{record_bytes, SERVER};
+use crate::tries::states::Draw;
+
+/// Random states that are handed in, and calls made on each.
+const STATES: u64 = 60;
+const CALLS_ON_STATE: u64 = 12;
+
+/// Calls on random states.
+pub fn replay(recorder: &mut Recorder, random: &mut Random) {
+    for state in 0..STATES {
+        let places = if state < STATES / 2 { 3 } else { 5 };
+        let mut cluster = Draw { random, places }.cluster();
+        agree(random, &mut cluster);
+        corners(random, &mut cluster);
+        recorder.hand_in(cluster);
+        calls_on_state(recorder, random, places);
+    }
+}
+
+/// Random calls, and more of those that bring a cluster on.
+fn calls_on_state(recorder: &mut Recorder, random: &mut Random, places: u64) {
+    let caller = Caller::new(random);
+    for _ in 0..CALLS_ON_STATE {
+        let call = match random.below(3) {
+            0 => Draw { random, places }.call(recorder.cluster()),
+            _ => useful::next_call(random, &caller, recorder.cluster()),
+        };
+        let _ = recorder.call(&call);
+    }
+}
+
+/// Makes a server and most replicas agree on session and marks, so that its messages are accepted.
+fn agree(random: &mut Random, cluster: &mut Cluster) {
+    let Shape { replicas, places } = cluster.shape;
+    let fitting = replicas as usize * medium::medium_bytes(places as usize);
+    if !cluster.shape.is_allowed() || cluster.media.len() != fitting {
+        return;
+    }
+    let mut server = cluster.records.servers[SERVER];
+    for replica in (0..replicas as usize).filter(|_| !random.chance(5)) {
+        let medium = cluster.medium(replica);
+        server.marks[replica] = medium::mark(medium);
+        server.session = medium::current(medium).map_or(server.session, |(_, slot)| slot.promise);
+    }
+    if random.chance(2) {
+        server.issued = (server.marks[0] + 1).min(places);
+        server.record = record_bytes(server.issued);
+    }
+    if random.chance(2) {
+        cluster.records.register.session = server.session;
+    }
+    server.phase = *random.pick(&[Phase::Opening, Phase::Open, Phase::Open]);
+    cluster.records.servers[SERVER] = server;
+}
+
+/// What the drawn states have not: damage anywhere on a medium, a record held that passes as none,
+/// lock marks at their top, and numbers from R up, which are never read.
+fn corners(random: &mut Random, cluster: &mut Cluster) {
+    if random.chance(3) {
+        let at = random.below(cluster.media.len() as u64) as usize;
+        cluster.media[at] ^= 1 << random.below(8);
+    }
+    if random.chance(4) {
+        cluster.records.servers[random.below(4) as usize].record[40] ^= 1;
+    }
+    if random.chance(4) {
+        cluster.locks.fill(u64::MAX);
+    }
+    if cluster.shape.replicas < 7 && random.chance(2) {
+        let Records { register, servers } = &mut cluster.records;
+        register.entries[6].closing = Some(u64::MAX);
+        servers[0].entries[6].closing = Some(u64::MAX);
+        servers[0].marks[6] = u64::MAX;
+    }
+}

@@ -1,0 +1,140 @@
+//! Writes the lines of a run and what they print, and makes its calls.
+
+use super::state_lines::{media_lines, record_lines, table_lines};
+use super::sums::sums;
+use super::texts::{call_line, line, reply_text};
+use super::{Counts, Run};
+use crate::cluster::{Call, Cluster, Message, Records, Reply, Shape};
+use crate::fate::{Fate, Left};
+use crate::hex;
+use crate::medium::{PlaceBytes, WIPED};
+
+/// What the program holds of media and lock tables, which is more than it lends.
+const MEDIA: usize = 7168;
+const TABLES: usize = 4100;
+
+pub struct Recorder {
+    /// What the next call gets.
+    cluster: Cluster,
+    /// What the program holds of media and lock tables; the cluster has the start of it.
+    media: Vec<u8>,
+    tables: Vec<u64>,
+    /// What lies beside a call, as last handed in.
+    given: PlaceBytes,
+    data: Vec<u8>,
+    locks: Vec<u64>,
+    run: Run,
+}
+
+impl Recorder {
+    pub fn new() -> Recorder {
+        let shape = Shape { replicas: 0, places: 0 };
+        let records = Records::default();
+        Recorder {
+            cluster: Cluster { shape, records, media: Vec::new(), locks: Vec::new() },
+            media: vec![0; MEDIA],
+            tables: vec![0; TABLES],
+            given: WIPED,
+            data: Vec::new(),
+            locks: Vec::new(),
+            run: Run { input: String::new(), output: String::new(), counts: Counts::default() },
+        }
+    }
+
+    pub fn finish(self) -> Run {
+        self.run
+    }
+
+    pub fn cluster(&self) -> &Cluster {
+        &self.cluster
+    }
+
+    fn line(&mut self, line: &str) {
+        assert!(line.len() <= 2000);
+        self.run.input += line;
+        self.run.input += "\n";
+    }
+
+    /// A line that fits no form.
+    pub fn bad(&mut self, line: &str) {
+        self.line(line);
+        self.run.output += "bad\n";
+    }
+
+    pub fn fresh(&mut self, shape: Shape) {
+        self.line(&line("fresh", &[shape.replicas, shape.places]));
+        self.cluster = Cluster::fresh(shape).expect("an allowed shape");
+        self.keep_slices();
+    }
+
+    /// Hands in a state, as far as it differs from the one held.
+    pub fn hand_in(&mut self, wanted: Cluster) {
+        let held = &self.cluster;
+        let mut lines = record_lines(&held.records, &wanted.records);
+        if held.shape != wanted.shape {
+            lines.push(line("shape", &[wanted.shape.replicas, wanted.shape.places]));
+        }
+        let lengths = |cluster: &Cluster| [cluster.media.len() as u64, cluster.locks.len() as u64];
+        if lengths(held) != lengths(&wanted) {
+            lines.push(line("lend", &lengths(&wanted)));
+        }
+        lines.extend(media_lines(&self.media, &wanted.media));
+        lines.extend(table_lines(&self.tables, &wanted.locks));
+        lines.iter().for_each(|line| self.line(line));
+        self.cluster = wanted;
+        self.keep_slices();
+    }
+
+    /// Makes a call.
+    pub fn call(&mut self, call: &Call) -> Reply {
+        let call = self.with_beside(call.clone());
+        self.line(&call_line(&call));
+        let reply = self.cluster.apply(&call);
+        self.keep_slices();
+        let [records, media, tables] = sums(&self.cluster);
+        let text = reply_text(&reply);
+        self.run.output += &format!("{text}\t{records:08X}\t{media:08X}\t{tables:08X}\n");
+        self.run.counts.add(&call, &reply);
+        reply
+    }
+
+    fn keep_slices(&mut self) {
+        self.media[..self.cluster.media.len()].copy_from_slice(&self.cluster.media);
+        self.tables[..self.cluster.locks.len()].copy_from_slice(&self.cluster.locks);
+    }
+
+    /// Hands in what lies beside the call. Given bytes only if a write is torn: with other fates
+    /// the call has those of an earlier one, which are not read.
+    fn with_beside(&mut self, mut call: Call) -> Call {
+        match &mut call {
+            Call::Prepare { message, .. }
+            | Call::Copy { message, .. }
+            | Call::Trim { message, .. }
+            | Call::Send { message, .. }
+            | Call::Note { message, .. }
+            | Call::Read { message, .. } => message.given = self.hand_in_given(message),
+            Call::Issue { request, .. } => self.hand_in_request(&request.data, &request.locks),
+            _ => {}
+        }
+        call
+    }
+
+    fn hand_in_given(&mut self, message: &Message) -> PlaceBytes {
+        if matches!(message.fate, Fate::Cut(_, Left::Torn)) && message.given != self.given {
+            self.given = message.given;
+            self.line(&format!("given\t{}", hex::encode(&message.given)));
+        }
+        self.given
+    }
+
+    fn hand_in_request(&mut self, data: &[u8], locks: &[u64]) {
+        if self.data != data {
+            self.data = data.to_vec();
+            self.line(&format!("data\t{}", hex::encode(data)));
+        }
+        if self.locks != locks {
+            self.locks = locks.to_vec();
+            self.line(&line("locks", locks));
+        }
+    }
+}

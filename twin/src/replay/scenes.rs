@@ -1,0 +1,203 @@
+//! Scenes that are handed in: each call where it is not declined, under every fate, and with the
+//! faults that it can meet.
+
+use std::ops::RangeInclusive;
+
+use super::recorder::Recorder;
+use crate::cluster::{Call, Entry, Message, Standing};
+use crate::fate::{Fate, Left};
+use crate::locks::{lock_places, TABLE_MARKS};
+use crate::medium::{
+    self, place_at, seal, DATA_AT, LENGTH_AT, PLACE_BYTES, SLOT_BYTES, SLOT_ZEROS_AT,
+};
+use crate::random::Random;
+use crate::tries::faults::{faults_of, with_faults, Fault};
+use crate::tries::scene::{
+    all_scenes, record_bytes, set_place, set_promise, Kind, Scene, PLACES, REPLICA, SERVER, SESSION,
+};
+
+pub fn replay(recorder: &mut Recorder, random: &mut Random) {
+    for scene in all_scenes() {
+        under_every_fate(recorder, &scene);
+        with_each_fault(recorder, &scene);
+        with_two_faults(recorder, random, &scene);
+        particular(recorder, random, &scene);
+    }
+}
+
+/// What is worth trying of one call.
+fn particular(recorder: &mut Recorder, random: &mut Random, scene: &Scene) {
+    match scene.kind {
+        Kind::Prepare => {
+            cut_each(recorder, random, scene, 1..=6);
+            sealed_unfit(recorder, scene);
+        }
+        Kind::OpeningCopy => joined(recorder, scene),
+        Kind::Trim => cut_each(recorder, random, scene, 1..=3),
+        Kind::Issue => {
+            estimates(recorder, scene);
+            ahead(recorder, scene);
+        }
+        Kind::Send => {
+            few_members(recorder, scene);
+            joined(recorder, scene);
+        }
+        Kind::Note => place_beyond(recorder, scene),
+        _ => {}
+    }
+}
+
+/// The call where it is not declined, under every fate.
+fn under_every_fate(recorder: &mut Recorder, scene: &Scene) {
+    for fate in fates_of(scene.kind) {
+        let mut scene = scene.clone();
+        scene.set_message(Message { fate, given: [0x5A; PLACE_BYTES] });
+        try_scene(recorder, scene);
+    }
+}
+
+/// The fates that a call can have: the register is never cut, and three calls send no message.
+fn fates_of(kind: Kind) -> Vec<Fate> {
+    let mut fates = vec![Fate::Answered];
+    if !matches!(kind, Kind::Issue | Kind::Stop | Kind::Reassign) {
+        fates.extend([Fate::Lost, Fate::AnswerLost]);
+        if !matches!(kind, Kind::Take | Kind::Open) {
+            fates.extend(cuts(1..=3));
+        }
+    }
+    fates
+}
+
+/// Cuts at these writes that leave each of the three.
+fn cuts(writes: RangeInclusive<u64>) -> impl Iterator<Item = Fate> {
+    writes.flat_map(|write| [Left::Old, Left::New, Left::Torn].map(|left| Fate::Cut(write, left)))
+}
+
+fn try_scene(recorder: &mut Recorder, scene: Scene) {
+    recorder.hand_in(scene.cluster);
+    // A declined call is wanted too.
+    let _ = recorder.call(&scene.call);
+}
+
+/// Each fault that the call can meet. What a receiver declines is silent under another fate.
+fn with_each_fault(recorder: &mut Recorder, scene: &Scene) {
+    for fault in faults_of(scene) {
+        let mut scene = with_faults(scene, &[&fault]);
+        try_scene(recorder, scene.clone());
+        if fault.number >= 17 && scene.kind != Kind::Reassign {
+            scene.set_message(Message::new(Fate::AnswerLost));
+            try_scene(recorder, scene);
+        }
+    }
+}
+
+/// Two faults at once, of a number and of the next one that the call can meet: the lower is given.
+fn with_two_faults(recorder: &mut Recorder, random: &mut Random, scene: &Scene) {
+    let mut faults = faults_of(scene);
+    faults.sort_by_key(|fault| fault.number);
+    let groups: Vec<&[Fault]> = faults.chunk_by(|a, b| a.number == b.number).collect();
+    for pair in groups.windows(2) {
+        let pair = [random.pick(pair[0]), random.pick(pair[1])];
+        try_scene(recorder, with_faults(scene, &pair));
+    }
+}
+
+/// A truncation cut at each write and behind the last.
+fn cut_each(recorder: &mut Recorder, random: &mut Random, scene: &Scene, writes: RangeInclusive<u64>) {
+    for fate in cuts(writes) {
+        let given = random.bytes(PLACE_BYTES).try_into().expect("64 bytes");
+        truncation(recorder, scene, Message { fate, given });
+    }
+}
+
+/// The truncation, and the prepare that comes after it.
+fn truncation(recorder: &mut Recorder, scene: &Scene, message: Message) {
+    let mut scene = scene.clone();
+    if scene.kind == Kind::Prepare {
+        // The promise is written first, then places 4 to 1 are wiped.
+        set_promise(scene.medium(), SESSION - 1);
+        let entries = &mut scene.cluster.records.servers[SERVER].entries;
+        entries[REPLICA] = Entry { session: 3, closing: Some(0) };
+    }
+    scene.set_message(message);
+    try_scene(recorder, scene);
+    let (server, replica) = (SERVER as u64, REPLICA as u64);
+    let again = Call::Prepare { server, replica, message: Message::new(Fate::Answered) };
+    recorder.call(&again).expect("a slot is left");
+}
+
+/// Each of a lock's three places alone below the client's mark, and none; locks named twice; of two
+/// locks only the second held.
+fn estimates(recorder: &mut Recorder, scene: &Scene) {
+    let [one, other] = [0x0123_4567_89AB_CDEF, 77];
+    let first = lock_places(one);
+    let granted = first.map(|place| vec![place]);
+    let refused = [Vec::new(), first.to_vec()];
+    let locks = [vec![one], vec![one], vec![one], vec![one, one], vec![one, other]];
+    for (low, locks) in granted.into_iter().chain(refused).zip(locks) {
+        issue(recorder, scene, &low, locks);
+    }
+    issue(recorder, scene, &first, vec![one, one]);
+}
+
+/// A request whose client's mark is 3, with marks of 2 at these places of the lock table and of 3
+/// at the others.
+fn issue(recorder: &mut Recorder, scene: &Scene, low: &[usize], locks: Vec<u64>) {
+    let mut scene = scene.clone();
+    scene.cluster.locks.fill(3);
+    low.iter().for_each(|place| scene.cluster.locks[SERVER * TABLE_MARKS + place] = 2);
+    scene.request().locks = locks;
+    try_scene(recorder, scene);
+}
+
+/// A client whose mark is issued and not acknowledged yet.
+fn ahead(recorder: &mut Recorder, scene: &Scene) {
+    let mut scene = scene.clone();
+    let server = &mut scene.cluster.records.servers[SERVER];
+    let issued = server.issued;
+    server.acknowledged = issued - 1;
+    scene.request().client_mark = issued;
+    try_scene(recorder, scene);
+}
+
+/// A handed-in record with fewer than Q members: the acknowledged mark is 0.
+fn few_members(recorder: &mut Recorder, scene: &Scene) {
+    for fate in fates_of(scene.kind) {
+        let mut scene = scene.clone();
+        let standings = &mut scene.cluster.records.servers[SERVER].standings;
+        standings.fill(Standing::Out);
+        standings[REPLICA] = Standing::In;
+        scene.set_message(Message::new(fate));
+        try_scene(recorder, scene);
+    }
+}
+
+/// Torn bytes that pass as a place, but as none from 1 to N.
+fn place_beyond(recorder: &mut Recorder, scene: &Scene) {
+    let mut scene = scene.clone();
+    let fate = Fate::Cut(1, Left::Torn);
+    scene.set_message(Message { fate, given: record_bytes(PLACES + 1) });
+    try_scene(recorder, scene);
+}
+
+/// A valid place behind the one that is written: the run goes on with it.
+fn joined(recorder: &mut Recorder, scene: &Scene) {
+    let mut scene = scene.clone();
+    let behind = medium::mark(scene.medium()) + 2;
+    set_place(scene.medium(), behind);
+    try_scene(recorder, scene);
+}
+
+/// A place with a byte behind its data, one with data that are too long, and a slot with other than
+/// zeros: their checks agree, and still they are not valid.
+fn sealed_unfit(recorder: &mut Recorder, scene: &Scene) {
+    let place = |at: usize, byte: u8| (place_at(3), PLACE_BYTES, at, byte);
+    let slot = (0, SLOT_BYTES, SLOT_ZEROS_AT, 1);
+    for (at, size, byte, value) in [place(DATA_AT + 20, 1), place(LENGTH_AT + 3, 29), slot] {
+        let mut scene = scene.clone();
+        let part = &mut scene.medium()[at..at + size];
+        part[byte] = value;
+        seal(part);
+        try_scene(recorder, scene);
+    }
+}

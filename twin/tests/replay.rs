@@ -1,0 +1,86 @@
+//! The stored run of the replay program is what this implementation gives, and it meets every call,
+//! refusal and fate.
+
+mod stored;
+
+use twin::replay::{self, CALLS, FATES, REFUSALS};
+
+/// Calls without a message, and those whose message goes to the register.
+const LOCAL: [&str; 3] = ["issue", "stop", "reassign"];
+const TO_REGISTER: [&str; 2] = ["take", "open"];
+
+/// The calls that document 01's list can decline with each number, from 1.
+const DECLINED: [&[&str]; REFUSALS as usize] = [
+    &CALLS,
+    &CALLS,
+    &["take", "prepare", "copy", "trim", "open", "issue", "send", "note", "read", "stop"],
+    &["prepare", "copy", "trim", "send", "note", "read"],
+    &["take", "prepare", "copy", "trim", "open", "issue", "send", "note", "read"],
+    &["take", "prepare", "copy", "trim", "open", "send", "note", "read"],
+    &["copy", "trim", "send", "note", "read"],
+    &["trim", "open"],
+    &["open"],
+    &["issue"],
+    &["issue"],
+    &["issue"],
+    &["issue"],
+    &["issue"],
+    &["issue"],
+    &["copy", "trim", "send", "read"],
+    &["copy"],
+    &["prepare", "copy", "trim", "send", "note", "read"],
+    &["prepare", "copy", "trim", "send", "note", "read"],
+    &["copy", "trim", "send", "note", "read"],
+    &["take", "reassign"],
+    &["open"],
+];
+
+#[test]
+fn stored_files_are_what_the_seed_gives() {
+    let run = replay::run();
+    stored::assert_same_lines(&stored::text("crates/replay/stdin"), &run.input);
+    stored::assert_same_lines(&stored::text("crates/replay/stdout"), &run.output);
+}
+
+#[test]
+fn every_call_meets_just_the_refusals_of_the_list() {
+    let counts = replay::run().counts;
+    println!("{counts}");
+    for (number, declined) in (1..).zip(DECLINED) {
+        for call in CALLS {
+            let met = counts.refused(call, number) > 0;
+            assert_eq!(met, declined.contains(&call), "{call}, number {number}");
+        }
+    }
+}
+
+#[test]
+fn every_call_is_done_and_silent_where_it_has_a_fate() {
+    let counts = replay::run().counts;
+    for call in CALLS {
+        assert!(counts.ok(call) > 0, "{call}");
+        assert_eq!(counts.silent(call) > 0, !LOCAL.contains(&call), "{call}");
+        for fate in FATES {
+            let cut = fate.starts_with("cut");
+            let has = !LOCAL.contains(&call) && !(cut && TO_REGISTER.contains(&call));
+            assert_eq!(counts.fate(call, fate) > 0, has, "{call}, {fate}");
+        }
+    }
+}
+
+#[test]
+fn messages_are_cut_at_the_first_and_at_later_writes() {
+    let counts = replay::run().counts;
+    for fate in &FATES[3..] {
+        assert!((1..=6).all(|write| counts.writes(fate).contains(&write)), "{fate}");
+    }
+}
+
+#[test]
+fn lines_and_files_are_small() {
+    let run = replay::run();
+    assert!(run.input.len() + run.output.len() < 600_000);
+    assert!(run.input.lines().all(|line| line.len() <= 2_000));
+    assert!(run.input.is_ascii() && run.input.ends_with('\n'));
+    assert!((3_000..=6_000).contains(&run.counts.calls()));
+}

@@ -13,8 +13,8 @@ use Rattle.fate.specs.declared.Left.the-variants.{New}
 use Rattle.fate.specs.Fates.{Write, allOf, leave}
 use Rattle.storage.specs.declared.slot.Slot.{Slot}
 use Rattle.storage.specs.declared.slot.Current.{Current}
-use Rattle.storage.specs.declared.operation.Closing.{Closing}
-use Rattle.storage.specs.declared.operation.Closing.the-variants.{Unresolved, Mark}
+use Rattle.storage.specs.declared.operation.Target.{Target}
+use Rattle.storage.specs.declared.operation.Target.the-variants.{Whole, Mark}
 use Rattle.storage.specs.Sizes.{slotsSize, placeSize, mediumSize, placeOffset}
 use Rattle.storage.specs.Places.{validPlace, wiped}
 use Rattle.storage.specs.Slots.{slotBytes, currentOf, storedSlot, otherAt}
@@ -121,9 +121,9 @@ trimmed-mark N t m e = truncated-mark N t m e
 
 -- ---- prepare
 
-closed-mark : (N : ℕ) (to : Closing) (m : List ℕ) → length m ≡ mediumSize N → markOf N (allOf (closing (markOf N m) to) m) ≡ closedMark to (markOf N m)
+closed-mark : (N : ℕ) (to : Target) (m : List ℕ) → length m ≡ mediumSize N → markOf N (allOf (closing (markOf N m) to) m) ≡ closedMark to (markOf N m)
 unfolding closing allOf
-closed-mark N Unresolved m e = refl
+closed-mark N Whole m e = refl
 closed-mark N (Mark t) m e = truncated-mark N t m e
 
 -- one slot write: the medium keeps its size and its mark
@@ -135,7 +135,7 @@ slot-written N c y m e = (
   mark-kept N m (writeAt (otherAt c) (slotBytes y) m) (slot-write-places c y [] m New (omega arith)),
 )
 
-pub prepared-mark : (N s : ℕ) (to : Closing) (m : List ℕ) → length m ≡ mediumSize N → markOf N (allOf (prepareWrites N s to m) m) ≡ closedMark to (markOf N m)
+pub prepared-mark : (N s : ℕ) (to : Target) (m : List ℕ) → length m ≡ mediumSize N → markOf N (allOf (prepareWrites N s to m) m) ≡ closedMark to (markOf N m)
 unfolding prepareWrites
 prepared-mark N s to m e = go (ℕ-discrete (storedSlot m .promise) s)
   where

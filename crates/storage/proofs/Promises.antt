@@ -30,8 +30,8 @@ use Rattle.fate.specs.Numbered.{effectOf, afterFrom}
 use Rattle.fate.proofs.Laws.{numbered, from-answered, from-one, from-append, stops, length-leave}
 use Rattle.storage.specs.declared.slot.Slot.{Slot}
 use Rattle.storage.specs.declared.slot.Current.{Current}
-use Rattle.storage.specs.declared.operation.Closing.{Closing}
-use Rattle.storage.specs.declared.operation.Closing.the-variants.{Unresolved, Mark}
+use Rattle.storage.specs.declared.operation.Target.{Target}
+use Rattle.storage.specs.declared.operation.Target.the-variants.{Whole, Mark}
 use Rattle.storage.specs.Sizes.{slotSize, slotsSize, placeSize, mediumSize, placeOffset}
 use Rattle.storage.specs.Places.{validPlace, wiped}
 use Rattle.storage.specs.Slots.{slotBytes, validSlot, currentOf, storedSlot, otherAt, HasSlot, FittingSlot}
@@ -76,12 +76,12 @@ pub record Trimmed (N t : ℕ) (m m′ : List ℕ) : Type 0 where
 abbrev pub promisedSlot : ℕ → Slot → Slot
 promisedSlot s x = record { promise = s; low = x .low; local = x .local }
 
-abbrev pub closedBy : Closing → List (List ℕ) → List (List ℕ)
-closedBy Unresolved l = l
+abbrev pub closedBy : Target → List (List ℕ) → List (List ℕ)
+closedBy Whole l = l
 closedBy (Mark t) l = take t l
 
 -- prepare, cut anywhere: nothing yet, or the promise is written and the log is a prefix that reaches the closing mark
-pub record Prepared (N s : ℕ) (to : Closing) (m m′ : List ℕ) : Type 0 where
+pub record Prepared (N s : ℕ) (to : Target) (m m′ : List ℕ) : Type 0 where
   pub sound : Sound N m′
   pub valid : HasSlot m′
   pub stage : ((storedSlot m′ ≡ storedSlot m) × (logOf N m′ ≡ logOf N m))
@@ -230,9 +230,9 @@ trims-none N t m h = ap (wipes t) (nothing-above (markOf N m) t h)
 
 module _ (N : ℕ) (f : Fate) (g m : List ℕ) (s : Sound N m) (h : Harmless N f g) where
   -- the closing mark's truncation, writes from k on
-  closes : (to : Closing) (k : ℕ) → let m′ = afterFrom k f g (closing (markOf N m) to) m in Shortened N (closedMark to (markOf N m)) m m′ × SlotsKept m m′
+  closes : (to : Target) (k : ℕ) → let m′ = afterFrom k f g (closing (markOf N m) to) m in Shortened N (closedMark to (markOf N m)) m m′ × SlotsKept m m′
   unfolding closing afterFrom
-  closes Unresolved k = (no-change N (markOf N m) m s (omega arith), record { current = refl; slot = refl })
+  closes Whole k = (no-change N (markOf N m) m s (omega arith), record { current = refl; slot = refl })
   closes (Mark t) k = shortens N f g m s h t k
 
 moved : (N u : ℕ) (m m₁ m′ : List ℕ) → logOf N m₁ ≡ logOf N m → Shortened N u m₁ m′ → Shortened N u m m′
@@ -248,7 +248,7 @@ moved N u m m₁ m′ e a =
 valid-by : (m m′ : List ℕ) → currentOf m′ ≡ currentOf m → HasSlot m → HasSlot m′
 valid-by m m′ e h z = h (sym e ∙ z)
 
-module _ (N : ℕ) (f : Fate) (g m : List ℕ) (s : Sound N m) (h : Harmless N f g) (p : ℕ) (to : Closing) (ok : HasSlot m) (fit : FittingSlot (storedSlot m)) where
+module _ (N : ℕ) (f : Fate) (g m : List ℕ) (s : Sound N m) (h : Harmless N f g) (p : ℕ) (to : Target) (ok : HasSlot m) (fit : FittingSlot (storedSlot m)) where
   -- the promise is the old one: only the truncation
   same-promise : storedSlot m .promise ≡ p → Prepared N p to m (afterFrom 1 f g (closing (markOf N m) to) m)
   same-promise e =
@@ -307,13 +307,13 @@ module _ (N : ℕ) (f : Fate) (g m : List ℕ) (s : Sound N m) (h : Harmless N f
           (rw (from-one g 1 f y m) (new-promise (omega (arith, ne)) w (effectOf f 1) refl)))
 
 -- a complete prepare leaves the new promise and the log up to the closing mark
-pub record Closed (N p : ℕ) (to : Closing) (m m′ : List ℕ) : Type 0 where
+pub record Closed (N p : ℕ) (to : Target) (m m′ : List ℕ) : Type 0 where
   pub slot : storedSlot m′ ≡ promisedSlot p (storedSlot m)
   pub log : logOf N m′ ≡ closedBy to (logOf N m)
 
-closes-all : (N : ℕ) (m : List ℕ) → Sound N m → (to : Closing) → let m′ = allOf (closing (markOf N m) to) m in (logOf N m′ ≡ closedBy to (logOf N m)) × SlotsKept m m′
+closes-all : (N : ℕ) (m : List ℕ) → Sound N m → (to : Target) → let m′ = allOf (closing (markOf N m) to) m in (logOf N m′ ≡ closedBy to (logOf N m)) × SlotsKept m m′
 unfolding closing allOf
-closes-all N m s Unresolved = (refl, record { current = refl; slot = refl })
+closes-all N m s Whole = (refl, record { current = refl; slot = refl })
 closes-all N m s (Mark t) = go (decLe t (markOf N m))
   where
     go : Dec (t ≤ markOf N m) → let m′ = allOf (wipes t (markOf N m - t)) m in (logOf N m′ ≡ take t (logOf N m)) × SlotsKept m m′
@@ -326,7 +326,7 @@ closes-all N m s (Mark t) = go (decLe t (markOf N m))
         rw (ap (λ (d : ℕ). wipes t d) (nothing-above (markOf N m) t (omega (arith, p))), wipes-none t)
         (sym (take-all t (logOf N m) (omega (arith, p, mark-is N m))), record { current = refl; slot = refl })
 
-pub prepares-all : (N p : ℕ) (to : Closing) (m : List ℕ) → Sound N m → HasSlot m → FittingSlot (storedSlot m) → storedSlot m .promise ≤ p → p < 2 ^ 64
+pub prepares-all : (N p : ℕ) (to : Target) (m : List ℕ) → Sound N m → HasSlot m → FittingSlot (storedSlot m) → storedSlot m .promise ≤ p → p < 2 ^ 64
     → Closed N p to m (allOf (prepareWrites N p to m) m)
 unfolding prepareWrites
 prepares-all N p to m s ok fit le w = go (ℕ-discrete (storedSlot m .promise) p)

@@ -15,7 +15,7 @@ use Rattle.fate.proofs.Laws.{numbered, from-append, from-one}
 use Rattle.storage.specs.declared.slot.Slot.{Slot}
 use Rattle.storage.specs.declared.slot.Current.{Current}
 use Rattle.storage.specs.declared.slot.Current.the-variants.{First, Second, Neither}
-use Rattle.storage.specs.declared.operation.Closing.{Closing}
+use Rattle.storage.specs.declared.operation.Target.{Target}
 use Rattle.storage.specs.declared.operation.Read.{Read}
 use Rattle.storage.specs.Slots.{currentOf, heldOf, storedSlot, otherAt}
 use Rattle.storage.specs.Log.{markOf}
@@ -45,7 +45,7 @@ module _ (c : Current) (x : Slot) (s : ℕ) where
       go false = lit≤ tt
 
 module _ (r : Read) (f : Fate) (g m : List ℕ) (a : AsRead r m) where
-  pub prepared : (s : ℕ) (to : Closing) (k : ℕ) (l l′ : List ℕ) → let w = promising (r .current) (r .slot) s in k ≡ 1 + length w
+  pub prepared : (s : ℕ) (to : Target) (k : ℕ) (l l′ : List ℕ) → let w = promising (r .current) (r .slot) s in k ≡ 1 + length w
       → l ≡ afterFrom 1 f g w m → l′ ≡ afterFrom k f g (closing (r .mark) to) l → l′ ≡ after f g (prepareWrites (r .places) s to m) m
   unfolding prepareWrites storedSlot
   prepared s to k l l′ e₁ e₂ e₃ =

@@ -8,8 +8,10 @@ use Rattle.octets.specs.Octets.{part, writeAt}
 use Rattle.fate.specs.Fates.{Write}
 use Rattle.storage.specs.declared.slot.Slot.{Slot}
 use Rattle.storage.specs.declared.slot.Current.{Current}
-use Rattle.storage.specs.declared.operation.Closing.{Closing}
-use Rattle.storage.specs.declared.operation.Closing.the-variants.{Unresolved, Mark}
+use Rattle.storage.specs.declared.operation.Target.{Target}
+use Rattle.storage.specs.declared.operation.Target.the-variants.{Whole, Mark}
+use Rattle.storage.specs.declared.operation.Operation.{Operation}
+use Rattle.storage.specs.declared.operation.Operation.the-variants.{Prepare, Trim, Note, Append, Read}
 use Rattle.storage.specs.Sizes.{placeOffset, mediumSize}
 use Rattle.storage.specs.Places.{wiped}
 use Rattle.storage.specs.Slots.{slotBytes, currentOf, storedSlot, otherAt}
@@ -37,17 +39,17 @@ promising c x session =
     cond (eqb (x .promise) session) [] (slotWrite c (record { promise = session; low = x .low; local = x .local }) ∷ [])
 
 -- "then truncates to the entry's closing mark if there is one"
-unfoldable pub closing : ℕ → Closing → List Write
-closing n Unresolved = []
+unfoldable pub closing : ℕ → Target → List Write
+closing n Whole = []
 closing n (Mark t) = truncation n t
 
 -- the mark that this leaves of a log with mark n
-abbrev pub closedMark : Closing → ℕ → ℕ
-closedMark Unresolved n = n
+abbrev pub closedMark : Target → ℕ → ℕ
+closedMark Whole n = n
 closedMark (Mark t) n = min t n
 
 -- prepare
-unfoldable pub prepareWrites : ℕ → ℕ → Closing → List ℕ → List Write
+unfoldable pub prepareWrites : ℕ → ℕ → Target → List ℕ → List Write
 prepareWrites N session to m = promising (currentOf m) (storedSlot m) session ++ closing (markOf N m) to
 
 -- trim: truncates to a mark
@@ -62,6 +64,14 @@ appendWrites n bs = placeWrite (n + 1) bs ∷ []
 unfoldable pub noteWrites : ℕ → ℕ → List ℕ → List Write
 noteWrites low local m =
     slotWrite (currentOf m) (record { promise = storedSlot m .promise; low = low; local = local }) ∷ []
+
+-- the writes of an operation on the medium m; bs are the bytes that lie beside an append
+abbrev pub writesOf : ℕ → List ℕ → Operation → List ℕ → List Write
+writesOf N bs (Prepare session to) m = prepareWrites N session to m
+writesOf N bs (Trim t) m = trimWrites N t m
+writesOf N bs (Note low local) m = noteWrites low local m
+writesOf N bs (Append n) m = appendWrites n bs
+writesOf N bs Read m = []
 
 -- "The media lie one after another in a single lent slice": replica i's medium, and the media with another in its place
 abbrev pub mediumAt : ℕ → ℕ → List ℕ → List ℕ

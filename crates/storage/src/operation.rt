@@ -20,10 +20,20 @@ use crate::slot::Slot;
 use crc32::Tables;
 use fate::Fate;
 
-// The closing part of a register entry: the mark at which a later session closed the replica's log, or none yet.
-pub enum Closing {
-    Unresolved,
+// What prepare leaves of a log: the whole of it, or the places up to a mark.
+pub enum Target {
+    Whole,
     Mark(u64),
+}
+
+// A replica's operations. Prepare: the session that it promises, and what it truncates to; Trim: the mark that it truncates to; Note: the
+// low-water marks; Append: the mark behind which a record is written, whose bytes lie beside it; Read writes nothing.
+pub enum Operation {
+    Prepare(u64, Target),
+    Trim(u64),
+    Note(u64, u64),
+    Append(u64),
+    Read,
 }
 
 // What a replica reads of its medium before it acts: its places, its current slot, what that holds, and its mark.
@@ -84,15 +94,15 @@ fn renew(t: &Tables, m: &mut [u8], c: Current, x: Slot, session: u64, given: &[u
 }
 
 // A log with mark n is truncated to the closing mark, if there is one: writes from k on.
-fn close(m: &mut [u8], n: usize, to: Closing, given: &[u8], f: Fate, k: u64)
+fn close(m: &mut [u8], n: usize, to: Target, given: &[u8], f: Fate, k: u64)
     requires { ⌜ mediumSize n ≤ length (now m) ⌝ }
     requires { ⌜ length (now given) ≡ placeSize ⌝ }
     requires { ⌜ k ≤ 2 ⌝ }
     ensures { λ _. ⌜ now (m .exit) ≡ afterFrom k f (now (given .entry)) (closing n to) (now (m .entry)) ⌝ }
 {
     match to {
-        Closing::Unresolved => {}
-        Closing::Mark(t) => medium::truncate(m, n, t as usize, given, f, k),
+        Target::Whole => {}
+        Target::Mark(t) => medium::truncate(m, n, t as usize, given, f, k),
     }
 }
 
@@ -102,7 +112,7 @@ pub fn prepare(
     m: &mut [u8],
     read: Read,
     session: u64,
-    to: Closing,
+    to: Target,
     given: &[u8],
     f: Fate,
 )

@@ -1,6 +1,6 @@
 // What a replica is asked to do, as a line says it.
 ghost use Prim.Native.Nat.{_≤_};
-use storage::operation::Closing;
+use storage::operation::Target;
 use stored::hex;
 use text::line;
 use text::number;
@@ -17,7 +17,7 @@ pub enum Command {
 
 // An operation with its numbers; the bytes of an append lie beside it.
 pub enum Operation {
-    Prepare(u64, Closing),
+    Prepare(u64, Target),
     Append,
     Truncate(u64),
     Note(u64, u64),
@@ -60,11 +60,11 @@ fn prepare(line: &[u8]) -> Operation {
 }
 
 // 0 if unresolved, else the closing mark + 1.
-fn closing(n: u64) -> Closing {
+fn closing(n: u64) -> Target {
     if n == 0 {
-        return Closing::Unresolved;
+        return Target::Whole;
     }
-    Closing::Mark(n - 1)
+    Target::Mark(n - 1)
 }
 
 // append: 64 BYTES.

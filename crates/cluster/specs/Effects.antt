@@ -10,21 +10,23 @@ use Rattle.locks.specs.Locks.{markedAll}
 use Rattle.fate.specs.declared.Fate.{Fate}
 use Rattle.fate.specs.declared.Fate.the-variants.{Answered, Lost, AnswerLost, Cut}
 use Rattle.fate.specs.Fates.{Write, after}
-use Rattle.storage.specs.declared.operation.Closing.{Closing}
-use Rattle.storage.specs.declared.operation.Closing.the-variants.{Unresolved, Mark}
+use Rattle.storage.specs.declared.operation.Target.{Target}
+use Rattle.storage.specs.declared.operation.Target.the-variants as target
 use Rattle.storage.specs.declared.place.Fields.{Fields}
 use Rattle.storage.specs.Sizes.{placeSize}
 use Rattle.storage.specs.Places.{recordBytes}
 use Rattle.storage.specs.Log.{placeAt, markOf}
 use Rattle.storage.specs.Operations.{prepareWrites, trimWrites, appendWrites, noteWrites, mediumAt, withMedium}
+use Rattle.cluster.specs.declared.Closing.{Closing}
+use Rattle.cluster.specs.declared.Closing.the-variants.{Unresolved, Mark}
 use Rattle.cluster.specs.declared.Entry.{Entry}
 use Rattle.cluster.specs.declared.Register.{Register}
 use Rattle.cluster.specs.declared.Phase.the-variants.{Opening, Open}
 use Rattle.cluster.specs.declared.Server.{Server}
 use Rattle.cluster.specs.declared.Request.{Request}
-use Rattle.cluster.specs.State.{State, idleServer, serverAt, putServer, putRegister, entryAt, markAt, memberAt, tableSize, tableAt, withTable}
+use Rattle.cluster.specs.State.{State, idleServer, serverAt, putServer, putRegister, entryAt, markAt, memberAt, recordOf, tableSize, tableAt, withTable}
 use Rattle.cluster.specs.Replies.{Reply, ok, silent}
-use Rattle.cluster.specs.Refusals.{answered, isOpen, voteMark, cleanAt, refusesPrepare, refusesAt, sessionAtTop, sessionDiffers}
+use Rattle.cluster.specs.Refusals.{answered, isOpen, cleanAt, refusesPrepare, refusesAt, sessionAtTop, sessionDiffers}
 
 -- what a call leaves: the state, the reply, and the 64 bytes that read answers (zeros for any other reply)
 pub record Result : Type 0 where
@@ -109,6 +111,11 @@ message N x s i f m =
       bytes = noBytes;
     }
 
+-- what is left of the log of a replica that is prepared: "truncates to the entry's closing mark if there is one"
+abbrev pub targetOf : Closing → Target
+targetOf Unresolved = target.Whole
+targetOf (Mark c) = target.Mark c
+
 -- "prepare i (opening): the replica writes a slot with the new promise, other fields kept, unless the promise is equal, then truncates to
 -- the entry's closing mark if there is one; it answers its mark and is known." The entry is the one handed over at take.
 unfoldable pub prepareEffect : ℕ → State → ℕ → ℕ → Fate → List ℕ → Result
@@ -116,14 +123,14 @@ prepareEffect N x s i f given =
     let v = serverAt (x .records) s in
     let m = mediumAt N i (x .media) in
     message N x s i f
-    (mediumAfter (refusesPrepare (v .session) m) f given (prepareWrites N (v .session) (entryAt (v .entries) i .closing) m) m)
+    (mediumAfter (refusesPrepare (v .session) m) f given (prepareWrites N (v .session) (targetOf (entryAt (v .entries) i .closing)) m) m)
 
--- "trim i (opening, decided): truncates a known replica to the majority mark and answers its mark."
+-- "trim i (opening, decided): truncates a known replica to the majority mark and answers its mark.": d is that mark
 unfoldable pub trimEffect : ℕ → ℕ → State → ℕ → ℕ → Fate → List ℕ → Result
-trimEffect r N x s i f given =
+trimEffect N d x s i f given =
     let v = serverAt (x .records) s in
     let m = mediumAt N i (x .media) in
-    message N x s i f (mediumAfter (refusesAt N v (x .media) i) f given (trimWrites N (voteMark r v) m) m)
+    message N x s i f (mediumAfter (refusesAt N v (x .media) i) f given (trimWrites N d m) m)
 
 -- "note i (open): writes a slot with the promise kept, the starting mark as low-water and i's mark as local low-water; it answers i's mark."
 unfoldable pub noteEffect : ℕ → State → ℕ → ℕ → Fate → List ℕ → Result
@@ -165,7 +172,9 @@ copyEffect r N x s a b f given =
 
 -- "send i (open): writes the issued record, held by the server as 64 bytes, in place (i's mark + 1) of member i."
 abbrev pub sendEffect : ℕ → ℕ → State → ℕ → ℕ → Fate → List ℕ → Result
-sendEffect r N x s i f given = appendEffect r N x s i (serverAt (x .records) s .held) f given
+sendEffect r N x s i f given =
+    let v = serverAt (x .records) s in
+    appendEffect r N x s i (recordOf v (markAt v i + 1)) f given
 
 -- ================ messages to the register
 
@@ -221,44 +230,42 @@ closedAt e d (Mark c) = e
 abbrev pub entryAfter : Entry → Bool → ℕ → ℕ → Entry
 entryAfter e clean session d = cond clean (record { session = session; closing = Unresolved }) (closedAt e d (e .closing))
 
-unfoldable pub openedRegister : ℕ → Register → Server → Register
-openedRegister r g v =
+unfoldable pub openedRegister : ℕ → Register → Server → ℕ → Register
+openedRegister r g v d =
     record {
       session = g .session;
       generation = g .generation;
-      entries = upTo (λ i. entryAfter (entryAt (g .entries) i) (cleanAt r v i) (v .session) (voteMark r v)) (g .entries) r;
+      entries = upTo (λ i. entryAfter (entryAt (g .entries) i) (cleanAt v d i) (v .session) d) (g .entries) r;
     }
 
 -- "The mark is the session's starting mark, .. issued = acknowledged = it, clean replicas are its members, and all other recorded marks
 -- become 0."
-unfoldable pub openedServer : ℕ → Server → Server
-openedServer r v =
-    let d = voteMark r v in
+unfoldable pub openedServer : ℕ → Server → ℕ → Server
+openedServer r v d =
     record {
       phase = Open;
       session = v .session;
       generation = v .generation;
       entries = v .entries;
-      known = upTo (cleanAt r v) (replicate 7 false) r;
+      known = upTo (cleanAt v d) (replicate 7 false) r;
       dropped = replicate 7 false;
-      marks = upTo (λ i. cond (cleanAt r v i) d 0) (replicate 7 0) r;
+      marks = upTo (λ i. cond (cleanAt v d i) d 0) (replicate 7 0) r;
       start = d;
       issued = d;
       acked = d;
       held = v .held;
     }
 
--- "open (opening)": "its lock table is filled with it"; "It answers the mark."
-unfoldable pub openEffect : ℕ → State → ℕ → Fate → Result
-openEffect r x s f =
+-- "open (opening)": "its lock table is filled with it"; "It answers the mark.": d is the mark that the vote decided
+unfoldable pub openEffect : ℕ → ℕ → State → ℕ → Fate → Result
+openEffect r d x s f =
     let g = x .records .register in
     let v = serverAt (x .records) s in
-    let d = voteMark r v in
-    let g′ = cond (arrives f && not (sessionDiffers g v)) (openedRegister r g v) g in
+    let g′ = cond (arrives f && not (sessionDiffers g v)) (openedRegister r g v d) g in
     record {
       state =
           record {
-            records = putServer (putRegister (x .records) g′) s (cond (answered f) (openedServer r v) idleServer);
+            records = putServer (putRegister (x .records) g′) s (cond (answered f) (openedServer r v d) idleServer);
             media = x .media;
             tables = cond (answered f) (withTable s (replicate tableSize d) (x .tables)) (x .tables);
           };

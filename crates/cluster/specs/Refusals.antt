@@ -1,7 +1,8 @@
--- Why a call is declined: document 01's list, in its order, each number with its condition for each call.
+-- Why a call is declined: document 01's list. First the conditions, each under its sentence and a function of what it looks at; then each
+-- call's own list of them.
 -- Assumes nothing.
 use Prim.Native.Nat.{ℕ, _+_, _*_, _^_}
-use mathlib.Core.List.{List, [], _∷_}
+use mathlib.Core.List.{List, [], _∷_, _++_}
 use mathlib.Core.Bool.{Bool, true, false, not, cond, _&&_, _||_}
 use lib.ListN.{length}
 use lib.Dec.{leb, ltb, eqb}
@@ -11,8 +12,6 @@ use Rattle.fate.specs.declared.Left.{Left}
 use Rattle.fate.specs.declared.Left.the-variants.{Old, New, Torn}
 use Rattle.storage.specs.declared.slot.Current.{Current}
 use Rattle.storage.specs.declared.slot.Current.the-variants.{First, Second, Neither}
-use Rattle.storage.specs.declared.operation.Closing.{Closing}
-use Rattle.storage.specs.declared.operation.Closing.the-variants.{Unresolved, Mark}
 use Rattle.storage.specs.Sizes.{dataLimit, mediumSize}
 use Rattle.storage.specs.Slots.{currentOf, storedSlot}
 use Rattle.storage.specs.Log.{markOf}
@@ -24,15 +23,19 @@ use Rattle.locks.specs.declared.LockTest.{LockTest}
 use Rattle.locks.specs.declared.LockTest.the-variants.{Free, Held}
 use Rattle.locks.specs.Locks.{firstHeld}
 use Rattle.cluster.specs.declared.Shape.{Shape}
+use Rattle.cluster.specs.declared.Closing.{Closing}
+use Rattle.cluster.specs.declared.Closing.the-variants.{Unresolved, Mark}
 use Rattle.cluster.specs.declared.Entry.{Entry}
 use Rattle.cluster.specs.declared.Phase.{Phase}
 use Rattle.cluster.specs.declared.Phase.the-variants.{Idle, Opening, Open}
+use Rattle.cluster.specs.declared.Phases.{Phases}
 use Rattle.cluster.specs.declared.Server.{Server}
 use Rattle.cluster.specs.declared.Register.{Register}
 use Rattle.cluster.specs.declared.Records.{Records}
+use Rattle.cluster.specs.declared.Request.{Request}
 use Rattle.cluster.specs.declared.Call.{Call}
 use Rattle.cluster.specs.declared.Call.the-variants as call
-use Rattle.cluster.specs.State.{State, tableSize, serverAt, entryAt, markAt, activeAt, tableAt}
+use Rattle.cluster.specs.State.{State, tableSize, serverAt, entryAt, markAt, activeAt, votesAt, holds, tableAt}
 
 -- a call with what lies beside it: issue's data and locks, and the bytes given for a torn write
 pub record Input : Type 0 where
@@ -41,15 +44,30 @@ pub record Input : Type 0 where
   pub locks : List ℕ
   pub given : List ℕ
 
--- ================ what the conditions ask
+-- a number of the list, whether its condition holds, and the values given with it
+pub record Row : Type 0 where
+  pub number : ℕ
+  pub holds : Bool
+  pub values : List ℕ
 
--- 1 "R or N is outside its values, or a lent slice has another length"
-unfoldable pub outside : Shape → State → Bool
-outside h x =
-    not (eqb (h .replicas) 1 || eqb (h .replicas) 3 || eqb (h .replicas) 5 || eqb (h .replicas) 7)
-    || not (leb 1 (h .places) && leb (h .places) 1000)
-    || not (eqb (length (x .media)) (h .replicas * mediumSize (h .places)))
-    || not (eqb (length (x .tables)) (4 * tableSize))
+abbrev pub row : ℕ → Bool → Row
+row n b = record { number = n; holds = b; values = [] }
+
+-- ================ the conditions
+
+-- 1 "R or N is outside its values, or a lent slice has another length": media and tables are the lengths of the lent slices
+abbrev pub replicasFit : ℕ → Bool
+replicasFit r = eqb r 1 || eqb r 3 || eqb r 5 || eqb r 7
+
+abbrev pub placesLimit : ℕ
+placesLimit = 1000
+
+unfoldable pub outside : Shape → ℕ → ℕ → Bool
+outside h media tables =
+    not (replicasFit (h .replicas))
+    || not (leb 1 (h .places) && leb (h .places) placesLimit)
+    || not (eqb media (h .replicas * mediumSize (h .places)))
+    || not (eqb tables (4 * tableSize))
 
 -- 2 "A mark in the register or a server record (closing, starting, recorded, issued, acknowledged) is above N"
 abbrev pub closingFits : Closing → ℕ → Bool
@@ -70,62 +88,42 @@ serverFits h v =
 unfoldable pub markAbove : Shape → Records → Bool
 markAbove h r = not (entriesFit h (r .register .entries) && all (λ s. serverFits h (serverAt r s)) 4)
 
--- 3 "The server number is above 3". reassign names none: 0 stands there, and no condition of reassign looks at that server.
-abbrev pub serverOf : Call → ℕ
-serverOf (call.Take s f) = s
-serverOf (call.Prepare s i f) = s
-serverOf (call.Copy s a b f) = s
-serverOf (call.Trim s i f) = s
-serverOf (call.Open s f) = s
-serverOf (call.Issue s q) = s
-serverOf (call.Send s i f) = s
-serverOf (call.Note s i f) = s
-serverOf (call.Read s i n f) = s
-serverOf (call.Stop s) = s
-serverOf call.Reassign = 0
+-- 3 "The server number is above 3"
+abbrev pub noServerAt : ℕ → Bool
+noServerAt s = ltb 3 s
 
 -- 4 "A replica number is not below R, or copy names one twice"
-abbrev pub badReplica : ℕ → Call → Bool
-badReplica r (call.Take s f) = false
-badReplica r (call.Prepare s i f) = leb r i
-badReplica r (call.Copy s a b f) = leb r a || leb r b || eqb a b
-badReplica r (call.Trim s i f) = leb r i
-badReplica r (call.Open s f) = false
-badReplica r (call.Issue s q) = false
-badReplica r (call.Send s i f) = leb r i
-badReplica r (call.Note s i f) = leb r i
-badReplica r (call.Read s i n f) = leb r i
-badReplica r (call.Stop s) = false
-badReplica r call.Reassign = false
+abbrev pub noReplicaAt : ℕ → ℕ → Bool
+noReplicaAt r i = leb r i
+
+abbrev pub notTwo : ℕ → ℕ → ℕ → Bool
+notTwo r a b = noReplicaAt r a || noReplicaAt r b || eqb a b
 
 -- 5 "The server isn't in the phase named with the call"
-abbrev pub isIdle : Phase → Bool
-isIdle Idle = true
-isIdle Opening = false
-isIdle Open = false
-
-abbrev pub isOpening : Phase → Bool
-isOpening Idle = false
-isOpening Opening = true
-isOpening Open = false
+abbrev pub allows : Phase → Phases → Bool
+allows Idle w = w .idle
+allows Opening w = w .opening
+allows Open w = w .«open»
 
 abbrev pub isOpen : Phase → Bool
 isOpen Idle = false
 isOpen Opening = false
 isOpen Open = true
 
-abbrev pub wrongPhase : Phase → Call → Bool
-wrongPhase p (call.Take s f) = not (isIdle p)
-wrongPhase p (call.Prepare s i f) = not (isOpening p)
-wrongPhase p (call.Copy s a b f) = isIdle p
-wrongPhase p (call.Trim s i f) = not (isOpening p)
-wrongPhase p (call.Open s f) = not (isOpening p)
-wrongPhase p (call.Issue s q) = not (isOpen p)
-wrongPhase p (call.Send s i f) = not (isOpen p)
-wrongPhase p (call.Note s i f) = not (isOpen p)
-wrongPhase p (call.Read s i n f) = not (isOpen p)
-wrongPhase p (call.Stop s) = false
-wrongPhase p call.Reassign = false
+abbrev pub onlyIdle : Phases
+onlyIdle = record { idle = true; opening = false; «open» = false }
+
+abbrev pub onlyOpening : Phases
+onlyOpening = record { idle = false; opening = true; «open» = false }
+
+abbrev pub onlyOpen : Phases
+onlyOpen = record { idle = false; opening = false; «open» = true }
+
+abbrev pub openingOrOpen : Phases
+openingOrOpen = record { idle = false; opening = true; «open» = true }
+
+abbrev pub wrongPhase : Phases → Server → Bool
+wrongPhase phases v = not (allows (v .phase) phases)
 
 -- 6 "A register message is cut; or a replica message is cut and w is 0; or it leaves given bytes and these pass as a slot or as any
 -- place from 1 to N. With other fates, w and the bytes aren't read."
@@ -146,140 +144,47 @@ unfit N given Lost = false
 unfit N given AnswerLost = false
 unfit N given (Cut w l) = eqb w 0 || leftPasses N given l
 
-abbrev pub unfitFate : ℕ → List ℕ → Call → Bool
-unfitFate N given (call.Take s f) = isCut f
-unfitFate N given (call.Prepare s i f) = unfit N given f
-unfitFate N given (call.Copy s a b f) = unfit N given f
-unfitFate N given (call.Trim s i f) = unfit N given f
-unfitFate N given (call.Open s f) = isCut f
-unfitFate N given (call.Issue s q) = false
-unfitFate N given (call.Send s i f) = unfit N given f
-unfitFate N given (call.Note s i f) = unfit N given f
-unfitFate N given (call.Read s i n f) = unfit N given f
-unfitFate N given (call.Stop s) = false
-unfitFate N given call.Reassign = false
-
 -- 7 "A named replica isn't known (opening) or is no member or dropped (open); prepare is exempt"
-abbrev pub replicaOut : Server → Call → Bool
-replicaOut v (call.Take s f) = false
-replicaOut v (call.Prepare s i f) = false
-replicaOut v (call.Copy s a b f) = not (activeAt v a) || not (activeAt v b)
-replicaOut v (call.Trim s i f) = not (activeAt v i)
-replicaOut v (call.Open s f) = false
-replicaOut v (call.Issue s q) = false
-replicaOut v (call.Send s i f) = not (activeAt v i)
-replicaOut v (call.Note s i f) = not (activeAt v i)
-replicaOut v (call.Read s i n f) = not (activeAt v i)
-replicaOut v (call.Stop s) = false
-replicaOut v call.Reassign = false
+abbrev pub replicaOut : Server → ℕ → Bool
+replicaOut v i = not (activeAt v i)
 
 -- 8 "The mark isn't decided (trim, open)"
+abbrev pub undecided : ℕ → Server → Bool
+undecided r v = not (decided (votesAt v) (markAt v) r)
+
 -- the mark of a vote among the known replicas
 abbrev pub voteMark : ℕ → Server → ℕ
-voteMark r v = majorityMark (activeAt v) (markAt v) r
+voteMark r v = majorityMark (votesAt v) (markAt v) r
 
-abbrev pub undecided : ℕ → Server → Call → Bool
-undecided r v (call.Take s f) = false
-undecided r v (call.Prepare s i f) = false
-undecided r v (call.Copy s a b f) = false
-undecided r v (call.Trim s i f) = not (decided (activeAt v) (markAt v) r)
-undecided r v (call.Open s f) = not (decided (activeAt v) (markAt v) r)
-undecided r v (call.Issue s q) = false
-undecided r v (call.Send s i f) = false
-undecided r v (call.Note s i f) = false
-undecided r v (call.Read s i n f) = false
-undecided r v (call.Stop s) = false
-undecided r v call.Reassign = false
+-- 9 "Fewer than Q known replicas are clean (open)": known and "exactly at [the mark d] (the clean ones)"
+abbrev pub cleanAt : Server → ℕ → ℕ → Bool
+cleanAt v d i = activeAt v i && eqb (markAt v i) d
 
--- 9 "Fewer than Q known replicas are clean (open)": "exactly at it (the clean ones)"
-abbrev pub cleanAt : ℕ → Server → ℕ → Bool
-cleanAt r v i = activeAt v i && eqb (markAt v i) (voteMark r v)
-
-abbrev pub tooFewClean : ℕ → Server → Call → Bool
-tooFewClean r v (call.Take s f) = false
-tooFewClean r v (call.Prepare s i f) = false
-tooFewClean r v (call.Copy s a b f) = false
-tooFewClean r v (call.Trim s i f) = false
-tooFewClean r v (call.Open s f) = ltb (count (cleanAt r v) r) (quorum r)
-tooFewClean r v (call.Issue s q) = false
-tooFewClean r v (call.Send s i f) = false
-tooFewClean r v (call.Note s i f) = false
-tooFewClean r v (call.Read s i n f) = false
-tooFewClean r v (call.Stop s) = false
-tooFewClean r v call.Reassign = false
+abbrev pub tooFewClean : ℕ → Server → ℕ → Bool
+tooFewClean r v d = ltb (count (cleanAt v d) r) (quorum r)
 
 -- 10 to 15 are issue's. 10 "The request's generation isn't the session's"
-abbrev pub otherGeneration : Server → Call → Bool
-otherGeneration v (call.Take s f) = false
-otherGeneration v (call.Prepare s i f) = false
-otherGeneration v (call.Copy s a b f) = false
-otherGeneration v (call.Trim s i f) = false
-otherGeneration v (call.Open s f) = false
-otherGeneration v (call.Issue s q) = not (eqb (q .generation) (v .generation))
-otherGeneration v (call.Send s i f) = false
-otherGeneration v (call.Note s i f) = false
-otherGeneration v (call.Read s i n f) = false
-otherGeneration v (call.Stop s) = false
-otherGeneration v call.Reassign = false
+abbrev pub otherGeneration : Server → Request → Bool
+otherGeneration v q = not (eqb (q .generation) (v .generation))
 
 -- 11 "The client's mark is above the acknowledged mark"
-abbrev pub clientAhead : Server → Call → Bool
-clientAhead v (call.Take s f) = false
-clientAhead v (call.Prepare s i f) = false
-clientAhead v (call.Copy s a b f) = false
-clientAhead v (call.Trim s i f) = false
-clientAhead v (call.Open s f) = false
-clientAhead v (call.Issue s q) = ltb (v .acked) (q .mark)
-clientAhead v (call.Send s i f) = false
-clientAhead v (call.Note s i f) = false
-clientAhead v (call.Read s i n f) = false
-clientAhead v (call.Stop s) = false
-clientAhead v call.Reassign = false
+abbrev pub clientAhead : Server → Request → Bool
+clientAhead v q = ltb (v .acked) (q .mark)
 
--- 12 "Data exceed 28 bytes, or locks exceed 4"
+-- 12 "Data exceed 28 bytes, or locks exceed 4", of so many bytes and locks
 abbrev pub lockLimit : ℕ
 lockLimit = 4
 
-abbrev pub tooMuch : List ℕ → List ℕ → Call → Bool
-tooMuch content locks (call.Take s f) = false
-tooMuch content locks (call.Prepare s i f) = false
-tooMuch content locks (call.Copy s a b f) = false
-tooMuch content locks (call.Trim s i f) = false
-tooMuch content locks (call.Open s f) = false
-tooMuch content locks (call.Issue s q) = ltb dataLimit (length content) || ltb lockLimit (length locks)
-tooMuch content locks (call.Send s i f) = false
-tooMuch content locks (call.Note s i f) = false
-tooMuch content locks (call.Read s i n f) = false
-tooMuch content locks (call.Stop s) = false
-tooMuch content locks call.Reassign = false
+abbrev pub tooMuch : ℕ → ℕ → Bool
+tooMuch size locks = ltb dataLimit size || ltb lockLimit locks
 
 -- 13 "The issued record isn't acknowledged yet (issue)"
-abbrev pub unacknowledged : Server → Call → Bool
-unacknowledged v (call.Take s f) = false
-unacknowledged v (call.Prepare s i f) = false
-unacknowledged v (call.Copy s a b f) = false
-unacknowledged v (call.Trim s i f) = false
-unacknowledged v (call.Open s f) = false
-unacknowledged v (call.Issue s q) = ltb (v .acked) (v .issued)
-unacknowledged v (call.Send s i f) = false
-unacknowledged v (call.Note s i f) = false
-unacknowledged v (call.Read s i n f) = false
-unacknowledged v (call.Stop s) = false
-unacknowledged v call.Reassign = false
+abbrev pub unacknowledged : Server → Bool
+unacknowledged v = ltb (v .acked) (v .issued)
 
 -- 14 "The log is full: issued = N"
-abbrev pub full : ℕ → Server → Call → Bool
-full N v (call.Take s f) = false
-full N v (call.Prepare s i f) = false
-full N v (call.Copy s a b f) = false
-full N v (call.Trim s i f) = false
-full N v (call.Open s f) = false
-full N v (call.Issue s q) = eqb (v .issued) N
-full N v (call.Send s i f) = false
-full N v (call.Note s i f) = false
-full N v (call.Read s i n f) = false
-full N v (call.Stop s) = false
-full N v call.Reassign = false
+abbrev pub full : ℕ → Server → Bool
+full N v = eqb (v .issued) N
 
 -- 15 "A lock's estimate is not below the client's mark (004: the client's mark must be higher); the first such lock and its estimate
 -- are given"
@@ -291,33 +196,22 @@ abbrev pub heldBy : LockTest → List ℕ
 heldBy Free = []
 heldBy (Held k e) = k ∷ e ∷ []
 
-abbrev pub lockTest : List ℕ → List ℕ → Call → LockTest
-lockTest table locks (call.Take s f) = Free
-lockTest table locks (call.Prepare s i f) = Free
-lockTest table locks (call.Copy s a b f) = Free
-lockTest table locks (call.Trim s i f) = Free
-lockTest table locks (call.Open s f) = Free
-lockTest table locks (call.Issue s q) = firstHeld table locks (q .mark)
-lockTest table locks (call.Send s i f) = Free
-lockTest table locks (call.Note s i f) = Free
-lockTest table locks (call.Read s i n f) = Free
-lockTest table locks (call.Stop s) = Free
-lockTest table locks call.Reassign = Free
+abbrev pub lockRow : LockTest → Row
+lockRow t = record { number = 15; holds = isHeld t; values = heldBy t }
 
 -- 16 "There is nothing to do: send and i's mark isn't issued − 1; copy and b's mark isn't below a's; trim and i isn't above the mark; read
 -- and ID is 0, above i's mark or above acknowledged"
-abbrev pub nothingToDo : ℕ → Server → Call → Bool
-nothingToDo r v (call.Take s f) = false
-nothingToDo r v (call.Prepare s i f) = false
-nothingToDo r v (call.Copy s a b f) = not (ltb (markAt v b) (markAt v a))
-nothingToDo r v (call.Trim s i f) = not (ltb (voteMark r v) (markAt v i))
-nothingToDo r v (call.Open s f) = false
-nothingToDo r v (call.Issue s q) = false
-nothingToDo r v (call.Send s i f) = not (eqb (markAt v i + 1) (v .issued))
-nothingToDo r v (call.Note s i f) = false
-nothingToDo r v (call.Read s i n f) = eqb n 0 || ltb (markAt v i) n || ltb (v .acked) n
-nothingToDo r v (call.Stop s) = false
-nothingToDo r v call.Reassign = false
+abbrev pub nothingToSend : Server → ℕ → Bool
+nothingToSend v i = not (holds v (markAt v i + 1))
+
+abbrev pub nothingToCopy : Server → ℕ → ℕ → Bool
+nothingToCopy v a b = not (ltb (markAt v b) (markAt v a))
+
+abbrev pub nothingToTrim : ℕ → Server → ℕ → Bool
+nothingToTrim d v i = not (ltb d (markAt v i))
+
+abbrev pub nothingToRead : Server → ℕ → ℕ → Bool
+nothingToRead v i n = eqb n 0 || ltb (markAt v i) n || ltb (v .acked) n
 
 -- what a replica finds on its medium m. 18 "The replica has no valid slot"
 abbrev pub isNeither : Current → Bool
@@ -346,69 +240,9 @@ refusesPrepare session m = noSlot m || promiseAbove session m
 abbrev pub refuses : ℕ → ℕ → ℕ → List ℕ → Bool
 refuses N session recorded m = noSlot m || promiseDiffers session m || markDiffers N recorded m
 
--- the same of server v and replica i
+-- the same of server v and replica i; 17 "Copy, and a would meet 18, 19 or 20"
 abbrev pub refusesAt : ℕ → Server → List ℕ → ℕ → Bool
 refusesAt N v media i = refuses N (v .session) (markAt v i) (mediumAt N i media)
-
--- 17 "Copy, and a would meet 18, 19 or 20"
-abbrev pub unfitSource : ℕ → Server → List ℕ → Call → Bool
-unfitSource N v media (call.Take s f) = false
-unfitSource N v media (call.Prepare s i f) = false
-unfitSource N v media (call.Copy s a b f) = refusesAt N v media a
-unfitSource N v media (call.Trim s i f) = false
-unfitSource N v media (call.Open s f) = false
-unfitSource N v media (call.Issue s q) = false
-unfitSource N v media (call.Send s i f) = false
-unfitSource N v media (call.Note s i f) = false
-unfitSource N v media (call.Read s i n f) = false
-unfitSource N v media (call.Stop s) = false
-unfitSource N v media call.Reassign = false
-
--- "18 to 22 are seen only if the message is answered, and otherwise it is silent"
-abbrev pub answered : Fate → Bool
-answered Answered = true
-answered Lost = false
-answered AnswerLost = false
-answered (Cut w l) = false
-
-abbrev pub seesNoSlot : ℕ → List ℕ → Call → Bool
-seesNoSlot N media (call.Take s f) = false
-seesNoSlot N media (call.Prepare s i f) = answered f && noSlot (mediumAt N i media)
-seesNoSlot N media (call.Copy s a b f) = answered f && noSlot (mediumAt N b media)
-seesNoSlot N media (call.Trim s i f) = answered f && noSlot (mediumAt N i media)
-seesNoSlot N media (call.Open s f) = false
-seesNoSlot N media (call.Issue s q) = false
-seesNoSlot N media (call.Send s i f) = answered f && noSlot (mediumAt N i media)
-seesNoSlot N media (call.Note s i f) = answered f && noSlot (mediumAt N i media)
-seesNoSlot N media (call.Read s i n f) = answered f && noSlot (mediumAt N i media)
-seesNoSlot N media (call.Stop s) = false
-seesNoSlot N media call.Reassign = false
-
-abbrev pub seesOtherPromise : ℕ → Server → List ℕ → Call → Bool
-seesOtherPromise N v media (call.Take s f) = false
-seesOtherPromise N v media (call.Prepare s i f) = answered f && promiseAbove (v .session) (mediumAt N i media)
-seesOtherPromise N v media (call.Copy s a b f) = answered f && promiseDiffers (v .session) (mediumAt N b media)
-seesOtherPromise N v media (call.Trim s i f) = answered f && promiseDiffers (v .session) (mediumAt N i media)
-seesOtherPromise N v media (call.Open s f) = false
-seesOtherPromise N v media (call.Issue s q) = false
-seesOtherPromise N v media (call.Send s i f) = answered f && promiseDiffers (v .session) (mediumAt N i media)
-seesOtherPromise N v media (call.Note s i f) = answered f && promiseDiffers (v .session) (mediumAt N i media)
-seesOtherPromise N v media (call.Read s i n f) = answered f && promiseDiffers (v .session) (mediumAt N i media)
-seesOtherPromise N v media (call.Stop s) = false
-seesOtherPromise N v media call.Reassign = false
-
-abbrev pub seesOtherMark : ℕ → Server → List ℕ → Call → Bool
-seesOtherMark N v media (call.Take s f) = false
-seesOtherMark N v media (call.Prepare s i f) = false
-seesOtherMark N v media (call.Copy s a b f) = answered f && markDiffers N (markAt v b) (mediumAt N b media)
-seesOtherMark N v media (call.Trim s i f) = answered f && markDiffers N (markAt v i) (mediumAt N i media)
-seesOtherMark N v media (call.Open s f) = false
-seesOtherMark N v media (call.Issue s q) = false
-seesOtherMark N v media (call.Send s i f) = answered f && markDiffers N (markAt v i) (mediumAt N i media)
-seesOtherMark N v media (call.Note s i f) = answered f && markDiffers N (markAt v i) (mediumAt N i media)
-seesOtherMark N v media (call.Read s i n f) = answered f && markDiffers N (markAt v i) (mediumAt N i media)
-seesOtherMark N v media (call.Stop s) = false
-seesOtherMark N v media call.Reassign = false
 
 -- 21 "A number to be raised is at its top (take, reassign)": sessions have 64 bits, generations 32. reassign has no fate.
 abbrev pub sessionAtTop : ℕ → Bool
@@ -417,79 +251,153 @@ sessionAtTop s = eqb (s + 1) (2 ^ 64)
 abbrev pub generationAtTop : ℕ → Bool
 generationAtTop g = eqb (g + 1) (2 ^ 32)
 
-abbrev pub seesTop : Register → Call → Bool
-seesTop g (call.Take s f) = answered f && sessionAtTop (g .session)
-seesTop g (call.Prepare s i f) = false
-seesTop g (call.Copy s a b f) = false
-seesTop g (call.Trim s i f) = false
-seesTop g (call.Open s f) = false
-seesTop g (call.Issue s q) = false
-seesTop g (call.Send s i f) = false
-seesTop g (call.Note s i f) = false
-seesTop g (call.Read s i n f) = false
-seesTop g (call.Stop s) = false
-seesTop g call.Reassign = generationAtTop (g .generation)
-
 -- 22 "The register's session isn't the server's (open)"
 abbrev pub sessionDiffers : Register → Server → Bool
 sessionDiffers g v = not (eqb (g .session) (v .session))
 
-abbrev pub seesOtherSession : Register → Server → Call → Bool
-seesOtherSession g v (call.Take s f) = false
-seesOtherSession g v (call.Prepare s i f) = false
-seesOtherSession g v (call.Copy s a b f) = false
-seesOtherSession g v (call.Trim s i f) = false
-seesOtherSession g v (call.Open s f) = answered f && sessionDiffers g v
-seesOtherSession g v (call.Issue s q) = false
-seesOtherSession g v (call.Send s i f) = false
-seesOtherSession g v (call.Note s i f) = false
-seesOtherSession g v (call.Read s i n f) = false
-seesOtherSession g v (call.Stop s) = false
-seesOtherSession g v call.Reassign = false
+-- "18 to 22 are seen only if the message is answered, and otherwise it is silent"
+abbrev pub answered : Fate → Bool
+answered Answered = true
+answered Lost = false
+answered AnswerLost = false
+answered (Cut w l) = false
 
--- ================ the list
+abbrev pub seen : Fate → ℕ → Bool → Row
+seen f n b = row n (answered f && b)
 
--- a number of the list, whether its condition holds, and the values given with it
-pub record Row : Type 0 where
-  pub number : ℕ
-  pub holds : Bool
-  pub values : List ℕ
+-- ================ the lists
 
-abbrev pub row : ℕ → Bool → Row
-row n b = record { number = n; holds = b; values = [] }
+-- "Checked in this order": the order of the numbers, which each call's own list follows (proofs/Declines)
+abbrev pub order : List ℕ
+order = 1 ∷ 2 ∷ 3 ∷ 4 ∷ 5 ∷ 6 ∷ 7 ∷ 8 ∷ 9 ∷ 10 ∷ 11 ∷ 12 ∷ 13 ∷ 14 ∷ 15 ∷ 16 ∷ 17 ∷ 18 ∷ 19 ∷ 20 ∷ 21 ∷ 22 ∷ []
 
--- "Checked in this order"
-unfoldable pub rows : Shape → State → Input → List Row
-rows h x p =
-    let c = p .call in
-    let r = h .replicas in
-    let N = h .places in
-    let g = x .records .register in
-    let v = serverAt (x .records) (serverOf c) in
-    let test = lockTest (tableAt (serverOf c) (x .tables)) (p .locks) c in
-    row 1 (outside h x)
-    ∷ row 2 (markAbove h (x .records))
-    ∷ row 3 (ltb 3 (serverOf c))
-    ∷ row 4 (badReplica r c)
-    ∷ row 5 (wrongPhase (v .phase) c)
-    ∷ row 6 (unfitFate N (p .given) c)
-    ∷ row 7 (replicaOut v c)
-    ∷ row 8 (undecided r v c)
-    ∷ row 9 (tooFewClean r v c)
-    ∷ row 10 (otherGeneration v c)
-    ∷ row 11 (clientAhead v c)
-    ∷ row 12 (tooMuch (p .content) (p .locks) c)
-    ∷ row 13 (unacknowledged v c)
-    ∷ row 14 (full N v c)
-    ∷ record { number = 15; holds = isHeld test; values = heldBy test }
-    ∷ row 16 (nothingToDo r v c)
-    ∷ row 17 (unfitSource N v (x .media) c)
-    ∷ row 18 (seesNoSlot N (x .media) c)
-    ∷ row 19 (seesOtherPromise N v (x .media) c)
-    ∷ row 20 (seesOtherMark N v (x .media) c)
-    ∷ row 21 (seesTop g c)
-    ∷ row 22 (seesOtherSession g v c)
+-- what a call is checked for: before anything is looked at, before its message is sent, and by the receiver of the message
+pub record Checks : Type 0 where
+  pub admission : List Row
+  pub sending : List Row
+  pub receiving : List Row
+
+-- of every call; of every call that names a server; of every call for a server in some phases; of every call that names a replica too
+abbrev pub clusterRows : Shape → State → List Row
+clusterRows h x = row 1 (outside h (length (x .media)) (length (x .tables))) ∷ row 2 (markAbove h (x .records)) ∷ []
+
+abbrev pub serverRows : Shape → State → ℕ → List Row
+serverRows h x s = clusterRows h x ++ (row 3 (noServerAt s) ∷ [])
+
+abbrev pub phaseRows : Shape → State → ℕ → Phases → List Row
+phaseRows h x s phases = serverRows h x s ++ (row 5 (wrongPhase phases (serverAt (x .records) s)) ∷ [])
+
+abbrev pub replicaRows : Shape → State → ℕ → Bool → Phases → List Row
+replicaRows h x s unnamed phases = serverRows h x s ++ (row 4 unnamed ∷ row 5 (wrongPhase phases (serverAt (x .records) s)) ∷ [])
+
+-- of a message to replica i of server v
+abbrev pub messageRows : Shape → Server → ℕ → Fate → List ℕ → List Row
+messageRows h v i f given = row 6 (unfit (h .places) given f) ∷ row 7 (replicaOut v i) ∷ []
+
+-- by a replica, which server v has sent a message to: prepare's, and any other
+abbrev pub preparedRows : ℕ → List ℕ → Fate → List Row
+preparedRows session m f = seen f 18 (noSlot m) ∷ seen f 19 (promiseAbove session m) ∷ []
+
+abbrev pub receivedRows : ℕ → ℕ → ℕ → List ℕ → Fate → List Row
+receivedRows N session recorded m f =
+    seen f 18 (noSlot m) ∷ seen f 19 (promiseDiffers session m) ∷ seen f 20 (markDiffers N recorded m) ∷ []
+
+abbrev pub receivedAt : ℕ → Server → ℕ → List ℕ → Fate → List Row
+receivedAt N v i media f = receivedRows N (v .session) (markAt v i) (mediumAt N i media) f
+
+-- issue's own: of a request with so many bytes of data, by a server's record and lock table
+abbrev pub requestRows : ℕ → Server → Request → ℕ → List ℕ → List ℕ → List Row
+requestRows N v q size table locks =
+    row 10 (otherGeneration v q)
+    ∷ row 11 (clientAhead v q)
+    ∷ row 12 (tooMuch size (length locks))
+    ∷ row 13 (unacknowledged v)
+    ∷ row 14 (full N v)
+    ∷ lockRow (firstHeld table locks (q .mark))
     ∷ []
+
+unfoldable pub checksOf : Shape → State → Input → Call → Checks
+checksOf h x p (call.Take s f) =
+    record {
+      admission = phaseRows h x s onlyIdle;
+      sending = row 6 (isCut f) ∷ [];
+      receiving = seen f 21 (sessionAtTop (x .records .register .session)) ∷ [];
+    }
+checksOf h x p (call.Prepare s i f) =
+    let v = serverAt (x .records) s in
+    record {
+      admission = replicaRows h x s (noReplicaAt (h .replicas) i) onlyOpening;
+      sending = row 6 (unfit (h .places) (p .given) f) ∷ [];
+      receiving = preparedRows (v .session) (mediumAt (h .places) i (x .media)) f;
+    }
+checksOf h x p (call.Copy s a b f) =
+    let v = serverAt (x .records) s in
+    record {
+      admission = replicaRows h x s (notTwo (h .replicas) a b) openingOrOpen;
+      sending =
+          row 6 (unfit (h .places) (p .given) f)
+          ∷ row 7 (replicaOut v a || replicaOut v b)
+          ∷ row 16 (nothingToCopy v a b)
+          ∷ row 17 (refusesAt (h .places) v (x .media) a)
+          ∷ [];
+      receiving = receivedAt (h .places) v b (x .media) f;
+    }
+checksOf h x p (call.Trim s i f) =
+    let v = serverAt (x .records) s in
+    record {
+      admission = replicaRows h x s (noReplicaAt (h .replicas) i) onlyOpening;
+      sending =
+          messageRows h v i f (p .given)
+          ++ (row 8 (undecided (h .replicas) v) ∷ row 16 (nothingToTrim (voteMark (h .replicas) v) v i) ∷ []);
+      receiving = receivedAt (h .places) v i (x .media) f;
+    }
+checksOf h x p (call.Open s f) =
+    let v = serverAt (x .records) s in
+    record {
+      admission = phaseRows h x s onlyOpening;
+      sending =
+          row 6 (isCut f)
+          ∷ row 8 (undecided (h .replicas) v)
+          ∷ row 9 (tooFewClean (h .replicas) v (voteMark (h .replicas) v))
+          ∷ [];
+      receiving = seen f 22 (sessionDiffers (x .records .register) v) ∷ [];
+    }
+checksOf h x p (call.Issue s q) =
+    record {
+      admission = phaseRows h x s onlyOpen;
+      sending = requestRows (h .places) (serverAt (x .records) s) q (length (p .content)) (tableAt s (x .tables)) (p .locks);
+      receiving = [];
+    }
+checksOf h x p (call.Send s i f) =
+    let v = serverAt (x .records) s in
+    record {
+      admission = replicaRows h x s (noReplicaAt (h .replicas) i) onlyOpen;
+      sending = messageRows h v i f (p .given) ++ (row 16 (nothingToSend v i) ∷ []);
+      receiving = receivedAt (h .places) v i (x .media) f;
+    }
+checksOf h x p (call.Note s i f) =
+    let v = serverAt (x .records) s in
+    record {
+      admission = replicaRows h x s (noReplicaAt (h .replicas) i) onlyOpen;
+      sending = messageRows h v i f (p .given);
+      receiving = receivedAt (h .places) v i (x .media) f;
+    }
+checksOf h x p (call.Read s i n f) =
+    let v = serverAt (x .records) s in
+    record {
+      admission = replicaRows h x s (noReplicaAt (h .replicas) i) onlyOpen;
+      sending = messageRows h v i f (p .given) ++ (row 16 (nothingToRead v i n) ∷ []);
+      receiving = receivedAt (h .places) v i (x .media) f;
+    }
+checksOf h x p (call.Stop s) = record { admission = serverRows h x s; sending = []; receiving = [] }
+checksOf h x p call.Reassign =
+    record { admission = clusterRows h x; sending = row 21 (generationAtTop (x .records .register .generation)) ∷ []; receiving = [] }
+
+-- a call's whole list
+abbrev pub rowsOf : Shape → State → Input → List Row
+rowsOf h x p =
+    let k = checksOf h x p (p .call) in
+    k .admission ++ (k .sending ++ k .receiving)
 
 -- the first number whose condition holds
 pub data Verdict : Type 0 where

@@ -4,11 +4,12 @@ use Prim.Native.Nat.{ℕ, zero, suc, _*_}
 use mathlib.Core.List.{List, [], _++_}
 use mathlib.Core.Bool.{Bool, false, not, _&&_}
 use lib.ListN.{getD, set, replicate}
+use lib.Dec.{eqb}
 use Rattle.octets.specs.Octets.{part, writeAt}
-use Rattle.storage.specs.declared.operation.Closing.the-variants.{Unresolved}
 use Rattle.storage.specs.Sizes.{placeSize}
 use Rattle.storage.specs.Fresh.{freshMedium}
 use Rattle.cluster.specs.declared.Shape.{Shape}
+use Rattle.cluster.specs.declared.Closing.the-variants.{Unresolved}
 use Rattle.cluster.specs.declared.Entry.{Entry}
 use Rattle.cluster.specs.declared.Register.{Register}
 use Rattle.cluster.specs.declared.Phase.the-variants.{Idle}
@@ -81,9 +82,20 @@ markAt v i = getD (v .marks) i 0
 abbrev pub memberAt : Server → ℕ → Bool
 memberAt v i = getD (v .known) i false
 
--- and not dropped
+-- replica i may be used: known, or a member, and not dropped
 abbrev pub activeAt : Server → ℕ → Bool
 activeAt v i = getD (v .known) i false && not (getD (v .dropped) i false)
+
+-- replica i's mark counts in the vote
+abbrev pub votesAt : Server → ℕ → Bool
+votesAt v i = activeAt v i
+
+-- a record that the server holds: "the issued record, held by the server as 64 bytes"
+abbrev pub holds : Server → ℕ → Bool
+holds v n = eqb n (v .issued)
+
+abbrev pub recordOf : Server → ℕ → List ℕ
+recordOf v n = v .held
 
 -- ---- lock tables: "Four servers .. each have a lock table of 1,024 64-bit marks, lent together"
 

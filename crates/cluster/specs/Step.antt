@@ -1,11 +1,12 @@
 -- One call: unless declined, its effect. This is what the running calls are proved to do and what the guarantee is about.
 -- Assumes nothing.
+use mathlib.Core.List.{List, _++_}
 use Rattle.cluster.specs.declared.Shape.{Shape}
 use Rattle.cluster.specs.declared.Call.{Call}
 use Rattle.cluster.specs.declared.Call.the-variants as call
-use Rattle.cluster.specs.State.{State}
+use Rattle.cluster.specs.State.{State, serverAt}
 use Rattle.cluster.specs.Replies.{no}
-use Rattle.cluster.specs.Refusals.{Input, rows, Verdict, pass, declined, firstOf}
+use Rattle.cluster.specs.Refusals.{Input, Row, checksOf, rowsOf, voteMark, Verdict, pass, declined, firstOf}
 use Rattle.cluster.specs.Effects.{Result, noBytes, prepareEffect, trimEffect, noteEffect, readEffect, copyEffect, sendEffect, takeEffect, openEffect, issueEffect, stopEffect, reassignEffect}
 
 -- what each of the eleven calls does
@@ -13,8 +14,8 @@ abbrev pub effect : Shape → State → Input → Call → Result
 effect h x p (call.Take s f) = takeEffect x s f
 effect h x p (call.Prepare s i f) = prepareEffect (h .places) x s i f (p .given)
 effect h x p (call.Copy s a b f) = copyEffect (h .replicas) (h .places) x s a b f (p .given)
-effect h x p (call.Trim s i f) = trimEffect (h .replicas) (h .places) x s i f (p .given)
-effect h x p (call.Open s f) = openEffect (h .replicas) x s f
+effect h x p (call.Trim s i f) = trimEffect (h .places) (voteMark (h .replicas) (serverAt (x .records) s)) x s i f (p .given)
+effect h x p (call.Open s f) = openEffect (h .replicas) (voteMark (h .replicas) (serverAt (x .records) s)) x s f
 effect h x p (call.Issue s q) = issueEffect x s q (p .content) (p .locks)
 effect h x p (call.Send s i f) = sendEffect (h .replicas) (h .places) x s i f (p .given)
 effect h x p (call.Note s i f) = noteEffect (h .places) x s i f (p .given)
@@ -27,5 +28,18 @@ unfoldable pub unless : Verdict → State → Result → Result
 unless pass x e = e
 unless (declined n values) x e = record { state = x; reply = no n values; bytes = noBytes }
 
+-- what is left of a call that passed a part of its list: the effect e, unless a row of the rest holds
+abbrev pub rest : List Row → State → Result → Result
+rest ws x e = unless (firstOf ws) x e
+
+-- a call that is admitted, and one whose message is sent
+abbrev pub onceAdmitted : Shape → State → Input → Result
+onceAdmitted h x p =
+    let k = checksOf h x p (p .call) in
+    rest (k .sending ++ k .receiving) x (effect h x p (p .call))
+
+abbrev pub onceSent : Shape → State → Input → Result
+onceSent h x p = rest (checksOf h x p (p .call) .receiving) x (effect h x p (p .call))
+
 unfoldable pub step : Shape → State → Input → Result
-step h x p = unless (firstOf (rows h x p)) x (effect h x p (p .call))
+step h x p = rest (rowsOf h x p) x (effect h x p (p .call))

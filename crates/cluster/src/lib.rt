@@ -3,12 +3,17 @@ ghost use mathlib.Core.Path.{_≡_};
 ghost use Prim.Native.Nat.{_<_};
 ghost use Rattle.cluster.specs.State.{idleServer, putServer};
 use fate::Fate;
-use storage::operation::Closing;
 
 // R, the number of replicas, and N, the places of each medium.
 pub struct Shape {
     pub replicas: u64,
     pub places: u64,
+}
+
+// The closing part of an entry: the mark at which a later session closed the replica's log, or none yet.
+pub enum Closing {
+    Unresolved,
+    Mark(u64),
 }
 
 // What the register holds of a replica: the session that last set it, and the closing mark or that it is unresolved.
@@ -27,6 +32,13 @@ pub enum Phase {
     Idle,
     Opening,
     Open,
+}
+
+// The phases that a call is for.
+pub struct Phases {
+    pub idle: bool,
+    pub opening: bool,
+    pub open: bool,
 }
 
 // A server's record. `entries` are those that take handed over. `known`: the replicas known (opening), the members (open);

@@ -15,11 +15,13 @@ use Rattle.storage.specs.declared.slot.Slot.{Slot}
 use Rattle.storage.specs.declared.slot.Current.{Current}
 use Rattle.storage.specs.declared.operation.Target.{Target}
 use Rattle.storage.specs.declared.operation.Target.the-variants.{Whole, Mark}
+use Rattle.storage.specs.declared.operation.Operation.{Operation}
+use Rattle.storage.specs.declared.operation.Operation.the-variants.{Prepare, Trim, Note, Append, Read}
 use Rattle.storage.specs.Sizes.{slotsSize, placeSize, mediumSize, placeOffset}
 use Rattle.storage.specs.Places.{validPlace, wiped}
 use Rattle.storage.specs.Slots.{slotBytes, currentOf, storedSlot, otherAt}
 use Rattle.storage.specs.Log.{placeAt, markOf}
-use Rattle.storage.specs.Operations.{slotWrite, placeWrite, wipes, promising, closing, closedMark, prepareWrites, trimWrites, noteWrites}
+use Rattle.storage.specs.Operations.{slotWrite, placeWrite, wipes, promising, closing, closedMark, prepareWrites, trimWrites, noteWrites, writesOf, HasPlace, MarkKnown}
 use Rattle.storage.proofs.Scan.{rest, mark-le, mark-known, mark-next, mark-stop, log-valid, log-ends}
 use Rattle.storage.proofs.Blocks.{place-same, place-other}
 use Rattle.storage.proofs.LogWrites.{length-wiped, wiped-invalid}
@@ -63,11 +65,11 @@ mark-kept N m m′ k =
 -- ---- append
 
 -- a write behind the mark keeps what the log has
-pub append-reaches : (N : ℕ) (m bs : List ℕ) → length m ≡ mediumSize N → markOf N m < N → length bs ≡ placeSize
-    → markOf N m ≤ markOf N (writeAt (placeOffset (markOf N m + 1)) bs m)
-append-reaches N m bs e h l =
+pub append-reaches : (N n : ℕ) (m bs : List ℕ) → length m ≡ mediumSize N → markOf N m ≤ n → n < N → length bs ≡ placeSize
+    → markOf N m ≤ markOf N (writeAt (placeOffset (n + 1)) bs m)
+append-reaches N n m bs e b h l =
     mark-reaches N (markOf N m) _ (mark-le N m)
-    (λ i k. ap (validPlace (i + 1)) (place-other N m bs e (i + 1) (markOf N m + 1) (omega arith) (omega arith) (omega arith) l (λ q. omega (arith, q))) ∙ log-valid N i m k)
+    (λ i k. ap (validPlace (i + 1)) (place-other N m bs e (i + 1) (n + 1) (omega arith) (omega arith) (omega arith) l (λ q. omega (arith, q))) ∙ log-valid N i m k)
 
 -- ---- truncation
 
@@ -150,3 +152,15 @@ prepared-mark N s to m e = go (ℕ-discrete (storedSlot m .promise) s)
 pub noted-mark : (N low local : ℕ) (m : List ℕ) → length m ≡ mediumSize N → markOf N (allOf (noteWrites low local m) m) ≡ markOf N m
 unfolding noteWrites allOf
 noted-mark N low local m e = slot-written N (currentOf m) (record { promise = storedSlot m .promise; low = low; local = local }) m e .1
+
+-- ---- any operation
+
+-- "Each answered replica call sets the recorded mark to the replica's mark after it": what is known of it without reading it
+pub performed-mark : (N : ℕ) (op : Operation) (bs m : List ℕ) → length m ≡ mediumSize N → length bs ≡ placeSize → HasPlace N op
+    → ((n : ℕ) → op ≡ Append n → markOf N m ≤ n) → MarkKnown N op (markOf N m) (allOf (writesOf N bs op m) m)
+unfolding allOf
+performed-mark N (Prepare s to) bs m e l p b = prepared-mark N s to m e
+performed-mark N (Trim t) bs m e l p b = trimmed-mark N t m e
+performed-mark N (Note low local) bs m e l p b = noted-mark N low local m e
+performed-mark N (Append n) bs m e l p b = append-reaches N n m bs e (b n refl) p l
+performed-mark N Read bs m e l p b = refl

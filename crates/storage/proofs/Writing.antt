@@ -11,7 +11,7 @@ use borrow.Author.Tests.{eq-eqb, ne-eqb}
 use Rattle.fate.specs.declared.Fate.{Fate}
 use Rattle.fate.specs.Fates.{Write, leave, after}
 use Rattle.fate.specs.Numbered.{effectOf, afterFrom}
-use Rattle.fate.proofs.Laws.{numbered, from-append, from-one}
+use Rattle.fate.proofs.Laws.{numbered, from-append, from-one, from-none}
 use Rattle.storage.specs.declared.slot.Slot.{Slot}
 use Rattle.storage.specs.declared.slot.Current.{Current}
 use Rattle.storage.specs.declared.slot.Current.the-variants.{First, Second, Neither}
@@ -44,6 +44,13 @@ module _ (c : Current) (x : Slot) (s : ℕ) where
       go true = lit≤ tt
       go false = lit≤ tt
 
+module _ (f : Fate) (g m : List ℕ) where
+  pub appended : (n : ℕ) (bs l : List ℕ) → l ≡ leave (effectOf f 1) g (placeWrite (n + 1) bs) m → l ≡ after f g (appendWrites n bs) m
+  appended n bs l e = e ∙ sym (from-one g 1 f (placeWrite (n + 1) bs) m) ∙ numbered g f (appendWrites n bs) m
+
+  pub no-writes : after f g [] m ≡ m
+  no-writes = sym (numbered g f [] m) ∙ from-none g 1 f m
+
 module _ (r : Read) (f : Fate) (g m : List ℕ) (a : AsRead r m) where
   pub prepared : (s : ℕ) (to : Target) (k : ℕ) (l l′ : List ℕ) → let w = promising (r .current) (r .slot) s in k ≡ 1 + length w
       → l ≡ afterFrom 1 f g w m → l′ ≡ afterFrom k f g (closing (r .mark) to) l → l′ ≡ after f g (prepareWrites (r .places) s to m) m
@@ -62,11 +69,6 @@ module _ (r : Read) (f : Fate) (g m : List ℕ) (a : AsRead r m) where
   unfolding trimWrites
   trimmed to l e =
       e ∙ ap (λ (n : ℕ). afterFrom 1 f g (wipes to (n - to)) m) (a .mark) ∙ numbered g f (wipes to (markOf (r .places) m - to)) m
-
-  pub appended : (bs l : List ℕ) → l ≡ leave (effectOf f 1) g (placeWrite (r .mark + 1) bs) m → l ≡ after f g (appendWrites (markOf (r .places) m) bs) m
-  appended bs l e =
-      e ∙ ap (λ (n : ℕ). leave (effectOf f 1) g (placeWrite (n + 1) bs) m) (a .mark)
-      ∙ sym (from-one g 1 f (placeWrite (markOf (r .places) m + 1) bs) m) ∙ numbered g f (appendWrites (markOf (r .places) m) bs) m
 
   pub noted : (low local : ℕ) (l : List ℕ) → l ≡ leave (effectOf f 1) g (slotWrite (r .current) (record { promise = r .slot .promise; low = low; local = local })) m
       → l ≡ after f g (noteWrites low local m) m

@@ -23,6 +23,10 @@ placeSize = headerSize + dataLimit + checkSize
 abbrev pub slotsSize : ℕ
 slotsSize = 2 * slotSize
 
+-- "a medium of N places (1 to 1,000)"
+abbrev pub placesLimit : ℕ
+placesLimit = 1000
+
 -- "64 + 64 × N bytes"
 abbrev pub mediumSize : ℕ → ℕ
 mediumSize N = slotsSize + placeSize * N

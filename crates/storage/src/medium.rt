@@ -11,6 +11,7 @@ ghost use Rattle.storage.specs.Log.{placeAt, markOf};
 ghost use Rattle.storage.specs.Operations.{placeWrite, wipes};
 use crate::place;
 use crate::sizes::PLACE;
+use crate::sizes::Place;
 use crate::sizes::SLOTS;
 use crc32::Tables;
 use fate::Fate;
@@ -45,14 +46,15 @@ pub fn mark(t: &Tables, m: &[u8], places: usize) -> usize
 }
 
 // The bytes of place n.
-pub fn read_place(m: &[u8], n: usize, out: &mut [u8])
+pub fn read_place(m: &[u8], n: u64) -> Place
     requires { ⌜ (1 ≤ n) × (mediumSize n ≤ length (now m)) ⌝ }
-    requires { ⌜ length (now out) ≡ placeSize ⌝ }
-    ensures { λ _. ⌜ now (out .exit) ≡ placeAt n (now (m .entry)) ⌝ }
+    ensures { λ r. ⌜ r ≡ placeAt n (now (m .entry)) ⌝ }
 {
-    let a = SLOTS + PLACE * (n - 1);
+    let mut out = [0u8; PLACE];
+    let a = SLOTS + PLACE * (n as usize - 1);
     let e = a + PLACE;
-    octets::copy(out, &m[a..e]);
+    octets::copy(&mut out, &m[a..e]);
+    out
 }
 
 // Write k puts bytes in place n.

@@ -1,14 +1,14 @@
 // A replica's operations on its medium, each under a fate. What the replica has read before (its current slot, what that holds, its
 // mark) comes in as arguments, so that no byte is read twice.
 ghost use mathlib.Core.Path.{_≡_};
-ghost use Prim.Native.Nat.{_+_, _≤_, _<_};
+ghost use Prim.Native.Nat.{_+_, _≤_, _<_, min};
 ghost use lib.ListN.{length};
 ghost use Rattle.crc32.specs.Tables.{tablesOf};
 ghost use Rattle.fate.specs.Fates.{after, leave};
 ghost use Rattle.fate.specs.Numbered.{effectOf, afterFrom};
 ghost use Rattle.storage.specs.Sizes.{placeSize, mediumSize, slotsSize};
 ghost use Rattle.storage.specs.Log.{markOf};
-ghost use Rattle.storage.specs.Operations.{slotWrite, promising, closing, prepareWrites, trimWrites, appendWrites, noteWrites};
+ghost use Rattle.storage.specs.Operations.{slotWrite, promising, closing, prepareWrites, trimWrites, appendWrites, noteWrites, closedMark, writesOf, HasPlace, MarkKnown};
 ghost use Rattle.storage.specs.AsRead.{AsRead};
 ghost use Rattle.storage.specs.Given.{passes};
 use crate::medium;
@@ -107,15 +107,7 @@ fn close(m: &mut [u8], n: usize, to: Target, given: &[u8], f: Fate, k: u64)
 }
 
 // prepare: the promise of a session, then truncation to the closing mark.
-pub fn prepare(
-    t: &Tables,
-    m: &mut [u8],
-    read: Read,
-    session: u64,
-    to: Target,
-    given: &[u8],
-    f: Fate,
-)
+fn prepare(t: &Tables, m: &mut [u8], read: Read, session: u64, to: Target, given: &[u8], f: Fate)
     requires { ⌜ now t ≡ tablesOf ⌝ }
     requires { ⌜ AsRead read (now m) ⌝ }
     requires { ⌜ length (now given) ≡ placeSize ⌝ }
@@ -128,7 +120,7 @@ pub fn prepare(
 }
 
 // trim: truncation to a mark.
-pub fn trim(m: &mut [u8], read: Read, to: u64, given: &[u8], f: Fate)
+fn trim(m: &mut [u8], read: Read, to: u64, given: &[u8], f: Fate)
     requires { ⌜ AsRead read (now m) ⌝ }
     requires { ⌜ length (now given) ≡ placeSize ⌝ }
     ensures { λ _. ⌜ now (m .exit) ≡ after f (now (given .entry)) (trimWrites (read .places) to (now (m .entry))) (now (m .entry)) ⌝ }
@@ -136,19 +128,19 @@ pub fn trim(m: &mut [u8], read: Read, to: u64, given: &[u8], f: Fate)
     medium::truncate(m, read.mark, to as usize, given, f, 1);
 }
 
-// send and copy: a record in the place behind the mark.
-pub fn append(m: &mut [u8], read: Read, src: &[u8], given: &[u8], f: Fate)
+// send and copy: a record in the place behind mark n.
+fn append(m: &mut [u8], read: Read, n: u64, src: &[u8], given: &[u8], f: Fate)
     requires { ⌜ AsRead read (now m) ⌝ }
-    requires { ⌜ read .mark < read .places ⌝ }
+    requires { ⌜ n < read .places ⌝ }
     requires { ⌜ length (now src) ≡ placeSize ⌝ }
     requires { ⌜ length (now given) ≡ placeSize ⌝ }
-    ensures { λ _. ⌜ now (m .exit) ≡ after f (now (given .entry)) (appendWrites (markOf (read .places) (now (m .entry))) (now (src .entry))) (now (m .entry)) ⌝ }
+    ensures { λ _. ⌜ now (m .exit) ≡ after f (now (given .entry)) (appendWrites n (now (src .entry))) (now (m .entry)) ⌝ }
 {
-    medium::set_place(m, read.mark + 1, src, given, f, 1);
+    medium::set_place(m, n as usize + 1, src, given, f, 1);
 }
 
 // note: a slot with the promise kept and these low-water marks.
-pub fn note(t: &Tables, m: &mut [u8], read: Read, low: u64, local: u64, given: &[u8], f: Fate)
+fn note(t: &Tables, m: &mut [u8], read: Read, low: u64, local: u64, given: &[u8], f: Fate)
     requires { ⌜ now t ≡ tablesOf ⌝ }
     requires { ⌜ AsRead read (now m) ⌝ }
     requires { ⌜ length (now given) ≡ placeSize ⌝ }
@@ -162,6 +154,64 @@ pub fn note(t: &Tables, m: &mut [u8], read: Read, low: u64, local: u64, given: &
         local: local,
     };
     set_slot(t, m, c, y, given, f, 1);
+}
+
+// An operation on a medium that was read; src are the bytes that lie beside an append.
+pub fn perform(
+    t: &Tables,
+    m: &mut [u8],
+    read: Read,
+    op: Operation,
+    src: &[u8],
+    given: &[u8],
+    f: Fate,
+)
+    requires { ⌜ now t ≡ tablesOf ⌝ }
+    requires { ⌜ AsRead read (now m) ⌝ }
+    requires { ⌜ HasPlace (read .places) op ⌝ }
+    requires { ⌜ length (now src) ≡ placeSize ⌝ }
+    requires { ⌜ length (now given) ≡ placeSize ⌝ }
+    ensures { λ _. ⌜ now (m .exit) ≡ after f (now (given .entry)) (writesOf (read .places) (now (src .entry)) op (now (m .entry))) (now (m .entry)) ⌝ }
+{
+    match op {
+        Operation::Prepare(session, to) => prepare(t, m, read, session, to, given, f),
+        Operation::Trim(to) => trim(m, read, to, given, f),
+        Operation::Note(low, local) => note(t, m, read, low, local, given, f),
+        Operation::Append(n) => append(m, read, n, src, given, f),
+        Operation::Read => {}
+    }
+}
+
+fn lesser(a: u64, b: u64) -> u64
+    ensures { λ r. ⌜ r ≡ min a b ⌝ }
+{
+    if a <= b { a } else { b }
+}
+
+// The mark that a truncation leaves of a log with mark n.
+fn closed_mark(to: Target, n: u64) -> u64
+    ensures { λ r. ⌜ r ≡ closedMark to n ⌝ }
+{
+    match to {
+        Target::Whole => n,
+        Target::Mark(t) => lesser(t, n),
+    }
+}
+
+// The mark of a medium after an operation on a log with mark n: only behind an append is a place read again.
+pub fn mark_after(t: &Tables, m: &[u8], places: usize, op: Operation, n: u64) -> u64
+    requires { ⌜ now t ≡ tablesOf ⌝ }
+    requires { ⌜ length (now m) ≡ mediumSize places ⌝ }
+    requires { ⌜ MarkKnown places op n (now m) ⌝ }
+    ensures { λ r. ⌜ r ≡ markOf places (now (m .entry)) ⌝ }
+{
+    match op {
+        Operation::Prepare(_, to) => closed_mark(to, n),
+        Operation::Trim(to) => lesser(to, n),
+        Operation::Note(_, _) => n,
+        Operation::Append(_) => medium::mark_from(t, m, places, n as usize) as u64,
+        Operation::Read => n,
+    }
 }
 
 // Whether the bytes given for a torn write pass as a slot or as any place of the medium: only the place that they name can it be.

@@ -18,6 +18,9 @@ add-a c = search needs
 add-e : tie.Need-add-e
 add-e c = search needs
 
+slice-aggregate-copy : tie.Need-slice-aggregate-copy
+slice-aggregate-copy c = search needs
+
 sub-copy : tie.Need-sub-copy
 sub-copy c = search needs
 
@@ -30,14 +33,11 @@ part-copy-end c = search needs
 copy-requires : tie.Need-copy-requires
 copy-requires c κs = search needs
 
-same-length : tie.Need-same-length
-same-length c = search needs
-
 returns : tie.Need-returns
 unfolding placeAt
 returns c =
-    let a = c .before .before .before .before .before .before .before .args in
-    c .before .before .copy .ensures ∙ between-part (placeOffset (a .n)) placeSize (a .m .now)
+    let a = c .before .before .before .before .before .args in
+    c .before .copy .ensures ∙ between-part (placeOffset (a .n)) placeSize (a .m .now)
 
 pub read-place-spec : {M : Type 1} → statement M
 read-place-spec =
@@ -47,9 +47,9 @@ read-place-spec =
     mul-a
     add-a
     add-e
+    slice-aggregate-copy
     sub-copy
     part-copy-start
     part-copy-end
     copy-requires
-    same-length
     returns)

@@ -14,8 +14,8 @@ same-length c = search needs
 
 returns : tie.Need-returns
 returns c =
-    let a = c .before .before .before .before .before .before .before .before .args in
-    appended (a .read) (a .f) (a .given .now) (a .m .now) (c .before .before .before .before .before .before .before .before .pre .0) (a .src .now) _ (c .before .before .set-place .ensures)
+    let a = c .before .before .before .before .before .before .before .args in
+    appended (a .f) (a .given .now) (a .m .now) (a .n) (a .src .now) _ (c .before .before .set-place .ensures)
 
 pub append-spec : {M : Type 1} → statement M
 append-spec = tie.close (tie.spec add-set-place set-place-requires same-length returns)

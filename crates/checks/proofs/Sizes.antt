@@ -11,7 +11,7 @@ use borrow.Author.Tests.{not-false, eqb-true, leb-true, lt-leb, le-leb, eq-eqb, 
 use Rattle.base.proofs.Tests.{both, either}
 use Rattle.storage.specs.Sizes.{mediumSize}
 use Rattle.cluster.specs.declared.Shape.{Shape}
-use Rattle.checks.specs.Checks.{replicasFit, outsideSizes}
+use Rattle.cluster.specs.Refusals.{replicasFit, outside}
 
 pub replicas-le : (r : ℕ) → replicasFit r ≡ true → r ≤ 7
 unfolding replicasFit
@@ -27,27 +27,27 @@ media-fit r n hr hn =
     omega arith
 
 module _ (h : Shape) (media tables : ℕ) where
-  pub out-replicas : replicasFit (h .replicas) ≡ false → true ≡ outsideSizes h media tables
-  unfolding outsideSizes
+  pub out-replicas : replicasFit (h .replicas) ≡ false → true ≡ outside h media tables
+  unfolding outside
   out-replicas e = rw e
 
   module _ (fit : replicasFit (h .replicas) ≡ true) where
-    pub out-few : h .places < 1 → true ≡ outsideSizes h media tables
-    unfolding outsideSizes
+    pub out-few : h .places < 1 → true ≡ outside h media tables
+    unfolding outside
     out-few l = rw (fit, lt-leb 1 (h .places) l)
 
     module _ (few : 1 ≤ h .places) where
-      pub out-many : 1000 < h .places → true ≡ outsideSizes h media tables
-      unfolding outsideSizes
+      pub out-many : 1000 < h .places → true ≡ outside h media tables
+      unfolding outside
       out-many l = rw (fit, le-leb 1 (h .places) few, lt-leb (h .places) 1000 l)
 
       module _ (most : h .places ≤ 1000) where
-        pub out-media : (media ≡ h .replicas * mediumSize (h .places) → ⊥) → true ≡ outsideSizes h media tables
-        unfolding outsideSizes
+        pub out-media : (media ≡ h .replicas * mediumSize (h .places) → ⊥) → true ≡ outside h media tables
+        unfolding outside
         out-media ne = rw (fit, le-leb 1 (h .places) few, le-leb (h .places) 1000 most, ne-eqb media (h .replicas * mediumSize (h .places)) ne)
 
-        pub by-tables : media ≡ h .replicas * mediumSize (h .places) → not (eqb tables 4096) ≡ outsideSizes h media tables
-        unfolding outsideSizes
+        pub by-tables : media ≡ h .replicas * mediumSize (h .places) → not (eqb tables 4096) ≡ outside h media tables
+        unfolding outside
         by-tables e = rw (fit, le-leb 1 (h .places) few, le-leb (h .places) 1000 most, eq-eqb media (h .replicas * mediumSize (h .places)) e)
 
 -- what a passed refusal 1 says
@@ -62,8 +62,8 @@ pub neither : (a b : Bool) → (a || b) ≡ false → (a ≡ false) × (b ≡ fa
 neither true b e = let z : _≡_ {A = ℕ} 0 1 = cc in absurd (omega arith)
 neither false b e = (refl, e)
 
-pub within : (h : Shape) (media tables : ℕ) → outsideSizes h media tables ≡ false → Within h media tables
-unfolding outsideSizes
+pub within : (h : Shape) (media tables : ℕ) → outside h media tables ≡ false → Within h media tables
+unfolding outside
 within h media tables e =
     let r = not (replicasFit (h .replicas)) in
     let p = not (leb 1 (h .places) && leb (h .places) 1000) in
@@ -81,5 +81,5 @@ within h media tables e =
       tables = eqb-true tables 4096 (not-false _ (e₃ .1));
     }
 
-pub in-replicas : (h : Shape) (media tables : ℕ) → outsideSizes h media tables ≡ false → h .replicas ≤ 7
+pub in-replicas : (h : Shape) (media tables : ℕ) → outside h media tables ≡ false → h .replicas ≤ 7
 in-replicas h media tables e = within h media tables e .replicas

@@ -3,14 +3,16 @@
 use Prim.Native.Nat.{ℕ}
 use mathlib.Core.List.{List, []}
 use Rattle.cluster.specs.declared.Records.{Records}
+use Rattle.cluster.specs.declared.Server.{Server}
 use Rattle.cluster.specs.declared.Refusal.{Refusal}
 use Rattle.cluster.specs.declared.Answer.the-variants.{Done, Value, Silent, Declined}
 use Rattle.cluster.specs.declared.Outcome.{Outcome}
 use Rattle.cluster.specs.declared.Call.{Call}
-use Rattle.cluster.specs.State.{State}
+use Rattle.cluster.specs.State.{State, putServer}
 use Rattle.cluster.specs.Replies.{replyOf}
 use Rattle.cluster.specs.Refusals.{Input}
 use Rattle.cluster.specs.Effects.{Result, noBytes}
+use Rattle.checks.specs.declared.Change.{Change}
 
 -- register and server records by value, media and lock tables lent
 abbrev pub stateOf : Records → List ℕ → List ℕ → State
@@ -35,3 +37,10 @@ valueOf r v = record { records = r; answer = Value v; bytes = noBytes }
 
 abbrev pub doneOf : Records → Outcome
 doneOf r = record { records = r; answer = Done; bytes = noBytes }
+
+-- a call that has changed one server
+abbrev pub changed : Records → ℕ → Change → Outcome
+changed r s c = record { records = putServer r s (c .server); answer = c .answer; bytes = noBytes }
+
+abbrev pub unchanged : Server → Refusal → Change
+unchanged v why = record { server = v; answer = Declined why }

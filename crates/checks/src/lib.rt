@@ -1,21 +1,26 @@
-// What a call checks before its message: refusals 1 to 5, which every call has, and the tests by which a list of refusals is built up.
+// What every call is checked for before anything is looked at (refusals 1 to 5), the tests by which a list of refusals is built up, and
+// what a call gives when it is declined, silent or done.
 ghost use mathlib.Core.Path.{_≡_};
 ghost use mathlib.Core.Bool.{_&&_, _||_, not, cond};
-ghost use mathlib.Core.List.{[], _∷_};
-ghost use Prim.Native.Nat.{_≤_, _<_};
+ghost use mathlib.Core.List.{List, [], _∷_};
+ghost use Prim.Native.Nat.{ℕ, _≤_, _<_};
+ghost use lib.ListN.{length};
 ghost use lib.Dec.{ltb, leb};
-ghost use Rattle.cluster.specs.Refusals.{closingFits, entriesFit, serverFits, markAbove, row, firstOf, andThen};
-ghost use Rattle.checks.specs.Results.{declinedOf, silentOf, valueOf, doneOf};
-ghost use Rattle.checks.specs.Checks.{replicasFit, outsideSizes, belowFits, verdictOf, rowOf, phaseAt, allows};
+ghost use Rattle.cluster.specs.Refusals.{replicasFit, outside, closingFits, entriesFit, serverFits, markAbove, allows, clusterRows, serverRows, phaseRows, replicaRows, firstOf, andThen};
+ghost use Rattle.checks.specs.Results.{stateOf, declinedOf, silentOf, valueOf, doneOf, changed, unchanged};
+ghost use Rattle.checks.specs.Verdicts.{belowFits, verdictOf, rowOf, phaseAt};
 use cluster::Answer;
+use cluster::Closing;
 use cluster::Entry;
 use cluster::Outcome;
 use cluster::Phase;
+use cluster::Phases;
 use cluster::Records;
 use cluster::Refusal;
 use cluster::Server;
 use cluster::Shape;
-use storage::operation::Closing;
+use cluster::TABLES;
+use storage::sizes;
 
 // Whether a call may go on, or why it is declined.
 pub enum Check {
@@ -23,11 +28,10 @@ pub enum Check {
     Refuse(Refusal),
 }
 
-// The phases that a call is for.
-pub struct Phases {
-    pub idle: bool,
-    pub opening: bool,
-    pub open: bool,
+// What a call makes of one server: its record, and what is answered.
+pub struct Change {
+    pub server: Server,
+    pub answer: Answer,
 }
 
 // One more test: a call that was not declined before is declined for `why` if `bad`.
@@ -63,8 +67,8 @@ fn replicas_fit(r: u64) -> bool
 }
 
 // 1: R or N is outside its values, or a lent slice has another length.
-pub fn outside(shape: Shape, media: usize, tables: usize) -> bool
-    ensures { λ b. ⌜ b ≡ outsideSizes shape media tables ⌝ }
+fn is_outside(shape: Shape, media: usize, tables: usize) -> bool
+    ensures { λ b. ⌜ b ≡ outside shape media tables ⌝ }
 {
     let r = shape.replicas;
     let n = shape.places;
@@ -74,13 +78,13 @@ pub fn outside(shape: Shape, media: usize, tables: usize) -> bool
     if n < 1 {
         return true;
     }
-    if 1000 < n {
+    if sizes::PLACES_LIMIT < n {
         return true;
     }
-    if media != (r * (64 + 64 * n)) as usize {
+    if media != r as usize * sizes::medium_size(n) {
         return true;
     }
-    tables != 4096
+    tables != TABLES
 }
 
 fn closing_fits(c: Closing, n: u64) -> bool
@@ -130,7 +134,7 @@ fn server_fits(s: Server, shape: Shape) -> bool
 }
 
 // 2: a mark in the register or a server record is above N.
-pub fn mark_above(records: Records, shape: Shape) -> bool
+fn mark_above(records: Records, shape: Shape) -> bool
     requires { ⌜ shape .replicas ≤ 7 ⌝ }
     ensures { λ b. ⌜ b ≡ markAbove shape records ⌝ }
 {
@@ -145,7 +149,7 @@ pub fn mark_above(records: Records, shape: Shape) -> bool
 }
 
 // The phase of a server, idle where there is none.
-pub fn phase_at(records: Records, server: u64) -> Phase
+fn phase_at(records: Records, server: u64) -> Phase
     ensures { λ p. ⌜ p ≡ phaseAt records server ⌝ }
 {
     if server < 4 {
@@ -157,7 +161,7 @@ pub fn phase_at(records: Records, server: u64) -> Phase
     }
 }
 
-pub fn allowed(p: Phase, phases: Phases) -> bool
+fn allowed(p: Phase, phases: Phases) -> bool
     ensures { λ b. ⌜ b ≡ allows p phases ⌝ }
 {
     match p {
@@ -167,33 +171,52 @@ pub fn allowed(p: Phase, phases: Phases) -> bool
     }
 }
 
-// 2 to 5. `unnamed`: a replica number is not below R, or copy names one twice.
-fn admit_records(
-    shape: Shape,
-    records: Records,
-    server: u64,
-    unnamed: bool,
-    phases: Phases,
-) -> Check
-    requires { ⌜ shape .replicas ≤ 7 ⌝ }
-    ensures { λ k. ⌜ verdictOf k ≡ firstOf (row 2 (markAbove shape records) ∷ row 3 (ltb 3 server) ∷ row 4 unnamed ∷ row 5 (not (allows (phaseAt records server) phases)) ∷ []) ⌝ }
+// 1 and 2, of every call.
+pub fn admit_cluster(shape: Shape, records: Records, media: usize, tables: usize) -> Check
+    ensures { λ k. ⌜ ((m t : List ℕ) → length m ≡ media → length t ≡ tables → verdictOf k ≡ firstOf (clusterRows shape (stateOf records m t))) ⌝ }
 {
-    let k = also(
+    if is_outside(shape, media, tables) {
+        return Check::Refuse(Refusal::OutsideShape);
+    }
+    also(
         Check::Pass,
         mark_above(records, shape),
         Refusal::MarkAbovePlaces,
-    );
-    let k = also(k, 3 < server, Refusal::NoSuchServer);
-    let k = also(k, unnamed, Refusal::NoSuchReplica);
-    also(
-        k,
-        !allowed(phase_at(records, server), phases),
-        Refusal::OtherPhase,
     )
 }
 
-// 1 to 5.
-pub fn admit_call(
+// 1 to 3, of a call that names a server.
+pub fn admit_server(
+    shape: Shape,
+    records: Records,
+    media: usize,
+    tables: usize,
+    server: u64,
+) -> Check
+    ensures { λ k. ⌜ ((m t : List ℕ) → length m ≡ media → length t ≡ tables → verdictOf k ≡ firstOf (serverRows shape (stateOf records m t) server)) ⌝ }
+{
+    let k = admit_cluster(shape, records, media, tables);
+    also(k, 3 < server, Refusal::NoSuchServer)
+}
+
+// 1 to 3 and 5, of a call for a server in these phases.
+pub fn admit_phase(
+    shape: Shape,
+    records: Records,
+    media: usize,
+    tables: usize,
+    server: u64,
+    phases: Phases,
+) -> Check
+    ensures { λ k. ⌜ ((m t : List ℕ) → length m ≡ media → length t ≡ tables → verdictOf k ≡ firstOf (phaseRows shape (stateOf records m t) server phases)) ⌝ }
+{
+    let k = admit_server(shape, records, media, tables, server);
+    let wrong = !allowed(phase_at(records, server), phases);
+    also(k, wrong, Refusal::OtherPhase)
+}
+
+// 1 to 5, of a call that names replicas too. `unnamed`: a replica number is not below R, or copy names one twice.
+pub fn admit_replica(
     shape: Shape,
     records: Records,
     media: usize,
@@ -202,12 +225,12 @@ pub fn admit_call(
     unnamed: bool,
     phases: Phases,
 ) -> Check
-    ensures { λ k. ⌜ verdictOf k ≡ firstOf (row 1 (outsideSizes shape media tables) ∷ row 2 (markAbove shape records) ∷ row 3 (ltb 3 server) ∷ row 4 unnamed ∷ row 5 (not (allows (phaseAt records server) phases)) ∷ []) ⌝ }
+    ensures { λ k. ⌜ ((m t : List ℕ) → length m ≡ media → length t ≡ tables → verdictOf k ≡ firstOf (replicaRows shape (stateOf records m t) server unnamed phases)) ⌝ }
 {
-    if outside(shape, media, tables) {
-        return Check::Refuse(Refusal::OutsideShape);
-    }
-    admit_records(shape, records, server, unnamed, phases)
+    let k = admit_server(shape, records, media, tables, server);
+    let wrong = !allowed(phase_at(records, server), phases);
+    let k = also(k, unnamed, Refusal::NoSuchReplica);
+    also(k, wrong, Refusal::OtherPhase)
 }
 
 // A declined call changes nothing.
@@ -248,5 +271,29 @@ pub fn done(records: Records) -> Outcome
         records: records,
         answer: Answer::Done,
         bytes: [0; 64],
+    }
+}
+
+// A server's record is replaced once a call.
+pub fn settle(records: Records, i: usize, c: Change) -> Outcome
+    requires { ⌜ i < 4 ⌝ }
+    ensures { λ o. ⌜ o ≡ changed records i c ⌝ }
+{
+    let s = c.server;
+    let a = c.answer;
+    Outcome {
+        records: cluster::put_server(records, i, s),
+        answer: a,
+        bytes: [0; 64],
+    }
+}
+
+// A server that declines stays as it is.
+pub fn unchanged_server(v: Server, why: Refusal) -> Change
+    ensures { λ c. ⌜ c ≡ unchanged v why ⌝ }
+{
+    Change {
+        server: v,
+        answer: Answer::Declined(why),
     }
 }

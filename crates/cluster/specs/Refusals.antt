@@ -12,7 +12,7 @@ use Rattle.fate.specs.declared.Left.{Left}
 use Rattle.fate.specs.declared.Left.the-variants.{Old, New, Torn}
 use Rattle.storage.specs.declared.slot.Current.{Current}
 use Rattle.storage.specs.declared.slot.Current.the-variants.{First, Second, Neither}
-use Rattle.storage.specs.Sizes.{dataLimit, mediumSize}
+use Rattle.storage.specs.Sizes.{dataLimit, placesLimit, mediumSize}
 use Rattle.storage.specs.Slots.{currentOf, storedSlot}
 use Rattle.storage.specs.Log.{markOf}
 use Rattle.storage.specs.Operations.{mediumAt}
@@ -56,11 +56,8 @@ row n b = record { number = n; holds = b; values = [] }
 -- ================ the conditions
 
 -- 1 "R or N is outside its values, or a lent slice has another length": media and tables are the lengths of the lent slices
-abbrev pub replicasFit : ℕ → Bool
+unfoldable pub replicasFit : ℕ → Bool
 replicasFit r = eqb r 1 || eqb r 3 || eqb r 5 || eqb r 7
-
-abbrev pub placesLimit : ℕ
-placesLimit = 1000
 
 unfoldable pub outside : Shape → ℕ → ℕ → Bool
 outside h media tables =

@@ -4,6 +4,15 @@ ghost use Prim.Native.Nat.{_<_};
 ghost use Rattle.cluster.specs.State.{idleServer, putServer};
 use fate::Fate;
 
+// Limits, each named once: entries and marks of a record, servers, and the marks of a server's lock table and of all four.
+pub const REPLICAS: usize = 7;
+
+pub const SERVERS: usize = 4;
+
+pub const TABLE: usize = 1024;
+
+pub const TABLES: usize = 4096;
+
 // R, the number of replicas, and N, the places of each medium.
 pub struct Shape {
     pub replicas: u64,

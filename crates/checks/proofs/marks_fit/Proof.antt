@@ -4,7 +4,7 @@ use lib.Dec.{leb}
 use lib.ListN.{getD}
 use Rattle.base.specs.Below.{all}
 use Rattle.base.proofs.Below.{all-step}
-use Rattle.checks.specs.Checks.{belowFits}
+use Rattle.checks.specs.Verdicts.{belowFits}
 use native.Mathlib.Omega.{arith}
 use borrow.Author.Needs.{needs}
 use Rattle.checks.proofs.marks_fit.Statement.{statement}

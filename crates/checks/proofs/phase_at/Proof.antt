@@ -1,5 +1,5 @@
 use Rattle.base.proofs.Tests.{guards}
-use Rattle.checks.specs.Checks.{phaseAt}
+use Rattle.checks.specs.Verdicts.{phaseAt}
 use borrow.Author.Needs.{needs}
 use Rattle.checks.proofs.phase_at.Statement.{statement}
 use Rattle.checks.proofs.phase_at.Tie as tie

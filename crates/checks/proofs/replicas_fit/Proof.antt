@@ -1,5 +1,5 @@
 use Rattle.base.proofs.Tests.{guards}
-use Rattle.checks.specs.Checks.{replicasFit}
+use Rattle.cluster.specs.Refusals.{replicasFit}
 use borrow.Author.Needs.{needs}
 use Rattle.checks.proofs.replicas_fit.Statement.{statement}
 use Rattle.checks.proofs.replicas_fit.Tie as tie

@@ -1,5 +1,5 @@
 use Rattle.cluster.specs.Refusals.{serverFits}
-use Rattle.checks.specs.Checks.{belowFits}
+use Rattle.checks.specs.Verdicts.{belowFits}
 use borrow.Author.Needs.{needs}
 use Rattle.checks.proofs.server_fits.Statement.{statement}
 use Rattle.checks.proofs.server_fits.Tie as tie

@@ -1,5 +1,7 @@
 // What every call is checked for before anything is looked at (refusals 1 to 5), the tests by which a list of refusals is built up, and
 // what a call gives when it is declined, silent or done.
+pub mod vote;
+
 ghost use mathlib.Core.Path.{_≡_};
 ghost use mathlib.Core.Bool.{_&&_, _||_, not, cond};
 ghost use mathlib.Core.List.{List, [], _∷_};

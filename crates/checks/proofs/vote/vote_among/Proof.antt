@@ -3,12 +3,12 @@ use mathlib.Core.Path.{_∙_}
 use mathlib.Core.Bool.{false}
 use lib.ListN.{replicate}
 use Rattle.base.proofs.Below.{upTo-at}
-use Rattle.cluster.specs.State.{activeAt, markAt}
+use Rattle.cluster.specs.State.{votesAt, markAt}
 use Rattle.quorum.specs.Vote.{flagsOf}
 use Rattle.quorum.proofs.Same.{vote-same}
 use borrow.Author.Needs.{needs}
-use Rattle.hearing.proofs.vote_among.Statement.{statement}
-use Rattle.hearing.proofs.vote_among.Tie as tie
+use Rattle.checks.proofs.vote.vote_among.Statement.{statement}
+use Rattle.checks.proofs.vote.vote_among.Tie as tie
 
 active-flags-requires : tie.Need-active-flags-requires
 active-flags-requires c κs = search needs
@@ -21,8 +21,8 @@ returns c =
     let v = c .before .before .before .args .v in
     let p = c .before .before .before .pre in
     c .vote-of .ensures
-    ∙ vote-same (c .before .before .before .args .r) (flagsOf (c .before .active-flags .result)) (activeAt v) (markAt v)
-    (λ i l. rw (c .before .active-flags .ensures) (upTo-at (activeAt v) (replicate 7 false) 7 i false (omega arith) (omega arith)))
+    ∙ vote-same (c .before .before .before .args .r) (flagsOf (c .before .active-flags .result)) (votesAt v) (markAt v)
+    (λ i l. rw (c .before .active-flags .ensures) (upTo-at (votesAt v) (replicate 7 false) 7 i false (omega arith) (omega arith)))
 
 pub vote-among-spec : {M : Type 1} → statement M
 vote-among-spec = tie.close (tie.spec active-flags-requires vote-of-requires returns)

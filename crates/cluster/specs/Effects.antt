@@ -12,11 +12,13 @@ use Rattle.fate.specs.declared.Fate.the-variants.{Answered, Lost, AnswerLost, C
 use Rattle.fate.specs.Fates.{Write, after}
 use Rattle.storage.specs.declared.operation.Target.{Target}
 use Rattle.storage.specs.declared.operation.Target.the-variants as target
+use Rattle.storage.specs.declared.operation.Operation.{Operation}
+use Rattle.storage.specs.declared.operation.Operation.the-variants as op
 use Rattle.storage.specs.declared.place.Fields.{Fields}
 use Rattle.storage.specs.Sizes.{placeSize}
 use Rattle.storage.specs.Places.{recordBytes}
 use Rattle.storage.specs.Log.{placeAt, markOf}
-use Rattle.storage.specs.Operations.{prepareWrites, trimWrites, appendWrites, noteWrites, mediumAt, withMedium}
+use Rattle.storage.specs.Operations.{writesOf, mediumAt, withMedium}
 use Rattle.cluster.specs.declared.Closing.{Closing}
 use Rattle.cluster.specs.declared.Closing.the-variants.{Unresolved, Mark}
 use Rattle.cluster.specs.declared.Entry.{Entry}
@@ -118,26 +120,29 @@ targetOf (Mark c) = target.Mark c
 
 -- "prepare i (opening): the replica writes a slot with the new promise, other fields kept, unless the promise is equal, then truncates to
 -- the entry's closing mark if there is one; it answers its mark and is known." The entry is the one handed over at take.
+abbrev pub prepareOperation : Server → ℕ → Operation
+prepareOperation v i = op.Prepare (v .session) (targetOf (entryAt (v .entries) i .closing))
+
 unfoldable pub prepareEffect : ℕ → State → ℕ → ℕ → Fate → List ℕ → Result
 prepareEffect N x s i f given =
     let v = serverAt (x .records) s in
     let m = mediumAt N i (x .media) in
     message N x s i f
-    (mediumAfter (refusesPrepare (v .session) m) f given (prepareWrites N (v .session) (targetOf (entryAt (v .entries) i .closing)) m) m)
+    (mediumAfter (refusesPrepare (v .session) m) f given (writesOf N [] (prepareOperation v i) m) m)
 
 -- "trim i (opening, decided): truncates a known replica to the majority mark and answers its mark.": d is that mark
 unfoldable pub trimEffect : ℕ → ℕ → State → ℕ → ℕ → Fate → List ℕ → Result
 trimEffect N d x s i f given =
     let v = serverAt (x .records) s in
     let m = mediumAt N i (x .media) in
-    message N x s i f (mediumAfter (refusesAt N v (x .media) i) f given (trimWrites N d m) m)
+    message N x s i f (mediumAfter (refusesAt N v (x .media) i) f given (writesOf N [] (op.Trim d) m) m)
 
 -- "note i (open): writes a slot with the promise kept, the starting mark as low-water and i's mark as local low-water; it answers i's mark."
 unfoldable pub noteEffect : ℕ → State → ℕ → ℕ → Fate → List ℕ → Result
 noteEffect N x s i f given =
     let v = serverAt (x .records) s in
     let m = mediumAt N i (x .media) in
-    message N x s i f (mediumAfter (refusesAt N v (x .media) i) f given (noteWrites (v .start) (markAt v i) m) m)
+    message N x s i f (mediumAfter (refusesAt N v (x .media) i) f given (writesOf N [] (op.Note (v .start) (markAt v i)) m) m)
 
 -- "read i, ID (open): the place's 64 bytes."
 unfoldable pub readEffect : ℕ → State → ℕ → ℕ → ℕ → Fate → Result
@@ -156,7 +161,7 @@ unfoldable pub appendEffect : ℕ → ℕ → State → ℕ → ℕ → List ℕ
 appendEffect r N x s b bs f given =
     let v = serverAt (x .records) s in
     let m = mediumAt N b (x .media) in
-    let m′ = mediumAfter (refusesAt N v (x .media) b) f given (appendWrites (markAt v b) bs) m in
+    let m′ = mediumAfter (refusesAt N v (x .media) b) f given (writesOf N bs (op.Append (markAt v b)) m) m in
     let w = afterMessage f v b (markOf N m′) in
     let w′ = cond (isOpen (v .phase)) (acknowledge r w) w in
     record {

@@ -287,9 +287,30 @@ phaseRows h x s phases = serverRows h x s ++ (row 5 (wrongPhase phases (serverAt
 abbrev pub replicaRows : Shape → State → ℕ → Bool → Phases → List Row
 replicaRows h x s unnamed phases = serverRows h x s ++ (row 4 unnamed ∷ row 5 (wrongPhase phases (serverAt (x .records) s)) ∷ [])
 
--- of a message to replica i of server v
+-- before a message to replica i, by server v: of any, and of those that are checked for more
+abbrev pub prepareRows : Shape → Fate → List ℕ → List Row
+prepareRows h f given = row 6 (unfit (h .places) given f) ∷ []
+
 abbrev pub messageRows : Shape → Server → ℕ → Fate → List ℕ → List Row
 messageRows h v i f given = row 6 (unfit (h .places) given f) ∷ row 7 (replicaOut v i) ∷ []
+
+abbrev pub trimRows : Shape → Server → ℕ → Fate → List ℕ → List Row
+trimRows h v i f given =
+    messageRows h v i f given ++ (row 8 (undecided (h .replicas) v) ∷ row 16 (nothingToTrim (voteMark (h .replicas) v) v i) ∷ [])
+
+abbrev pub sendRows : Shape → Server → ℕ → Fate → List ℕ → List Row
+sendRows h v i f given = messageRows h v i f given ++ (row 16 (nothingToSend v i) ∷ [])
+
+abbrev pub readRows : Shape → Server → ℕ → ℕ → Fate → List ℕ → List Row
+readRows h v i n f given = messageRows h v i f given ++ (row 16 (nothingToRead v i n) ∷ [])
+
+abbrev pub copyRows : Shape → Server → List ℕ → ℕ → ℕ → Fate → List ℕ → List Row
+copyRows h v media a b f given =
+    row 6 (unfit (h .places) given f)
+    ∷ row 7 (replicaOut v a || replicaOut v b)
+    ∷ row 16 (nothingToCopy v a b)
+    ∷ row 17 (refusesAt (h .places) v media a)
+    ∷ []
 
 -- by a replica, which server v has sent a message to: prepare's, and any other
 abbrev pub preparedRows : ℕ → List ℕ → Fate → List Row
@@ -324,28 +345,21 @@ checksOf h x p (call.Prepare s i f) =
     let v = serverAt (x .records) s in
     record {
       admission = replicaRows h x s (noReplicaAt (h .replicas) i) onlyOpening;
-      sending = row 6 (unfit (h .places) (p .given) f) ∷ [];
+      sending = prepareRows h f (p .given);
       receiving = preparedRows (v .session) (mediumAt (h .places) i (x .media)) f;
     }
 checksOf h x p (call.Copy s a b f) =
     let v = serverAt (x .records) s in
     record {
       admission = replicaRows h x s (notTwo (h .replicas) a b) openingOrOpen;
-      sending =
-          row 6 (unfit (h .places) (p .given) f)
-          ∷ row 7 (replicaOut v a || replicaOut v b)
-          ∷ row 16 (nothingToCopy v a b)
-          ∷ row 17 (refusesAt (h .places) v (x .media) a)
-          ∷ [];
+      sending = copyRows h v (x .media) a b f (p .given);
       receiving = receivedAt (h .places) v b (x .media) f;
     }
 checksOf h x p (call.Trim s i f) =
     let v = serverAt (x .records) s in
     record {
       admission = replicaRows h x s (noReplicaAt (h .replicas) i) onlyOpening;
-      sending =
-          messageRows h v i f (p .given)
-          ++ (row 8 (undecided (h .replicas) v) ∷ row 16 (nothingToTrim (voteMark (h .replicas) v) v i) ∷ []);
+      sending = trimRows h v i f (p .given);
       receiving = receivedAt (h .places) v i (x .media) f;
     }
 checksOf h x p (call.Open s f) =
@@ -369,7 +383,7 @@ checksOf h x p (call.Send s i f) =
     let v = serverAt (x .records) s in
     record {
       admission = replicaRows h x s (noReplicaAt (h .replicas) i) onlyOpen;
-      sending = messageRows h v i f (p .given) ++ (row 16 (nothingToSend v i) ∷ []);
+      sending = sendRows h v i f (p .given);
       receiving = receivedAt (h .places) v i (x .media) f;
     }
 checksOf h x p (call.Note s i f) =
@@ -383,7 +397,7 @@ checksOf h x p (call.Read s i n f) =
     let v = serverAt (x .records) s in
     record {
       admission = replicaRows h x s (noReplicaAt (h .replicas) i) onlyOpen;
-      sending = messageRows h v i f (p .given) ++ (row 16 (nothingToRead v i n) ∷ []);
+      sending = readRows h v i n f (p .given);
       receiving = receivedAt (h .places) v i (x .media) f;
     }
 checksOf h x p (call.Stop s) = record { admission = serverRows h x s; sending = []; receiving = [] }

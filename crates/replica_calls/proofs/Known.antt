@@ -1,0 +1,77 @@
+-- What passed rows leave known: the replica that is named, its medium, and room for a record.
+-- Assumes nothing.
+use mathlib.Core.Path.{_≡_}
+use mathlib.Core.Bool.{Bool, true, false, not, _||_}
+use mathlib.Core.List.{List, [], _∷_}
+use lib.ListN.{length}
+use mathlib.Core.Logic.{⊎-elim}
+use Prim.Native.Nat.{ℕ, _+_, _*_, _≤_, _<_, _^_}
+use native.Mathlib.Nat.{mul-le-mul}
+use native.Mathlib.Omega.{arith}
+use lib.Dec.{eqb, leb, ltb}
+use borrow.Author.Tests.{leb-false, not-false, eqb-true, eqb-false, ltb-true, ltb-false}
+use Rattle.base.proofs.Tests.{lt-or-le}
+use Rattle.storage.specs.Sizes.{placesLimit, mediumSize}
+use Rattle.cluster.specs.declared.Shape.{Shape}
+use Rattle.cluster.specs.declared.Server.{Server}
+use Rattle.cluster.specs.State.{markAt}
+use Rattle.cluster.specs.Refusals.{wrongPhase, notTwo, nothingToRead, row, replicaRows, firstOf}
+use Rattle.cluster.specs.declared.Records.{Records}
+use Rattle.cluster.specs.declared.Phases.{Phases}
+use Rattle.cluster.specs.State.{serverAt}
+use Rattle.checks.specs.declared.Check.{Check}
+use Rattle.checks.specs.declared.Check.the-variants.{Pass}
+use Rattle.checks.specs.Verdicts.{verdictOf}
+use Rattle.checks.specs.Results.{stateOf}
+use Rattle.checks.proofs.Frame.{Admitted, admitted, holds-not}
+use Rattle.checks.proofs.Sizes.{neither}
+use Rattle.replica_calls.specs.Messages.{Named}
+
+pub named : (h : Shape) (v : Server) (s i bytes marks : ℕ) → Admitted h v s bytes marks → i < h .replicas → Named h v i bytes
+named h v s i bytes marks a l = record {
+  least = a .least;
+  few = a .most;
+  replicas = a .replicas;
+  replica = l;
+  within = a .media i l;
+  mark = a .fits .marks i l;
+  issued = a .fits .issued;
+}
+
+-- a call that names replicas and is admitted
+pub admits :
+    (h : Shape) (r : Records) (m t : List ℕ) (s : ℕ) (unnamed : Bool) (phases : Phases) {k : Check}
+    → verdictOf k ≡ firstOf (replicaRows h (stateOf r m t) s unnamed phases)
+    → k ≡ Pass
+    → Admitted h (serverAt r s) s (length m) (length t) × (unnamed ≡ false)
+admits h r m t s unnamed phases v q = (
+  admitted h r m t s (row 4 unnamed ∷ row 5 (wrongPhase phases (serverAt r s)) ∷ []) v q,
+  holds-not (replicaRows h (stateOf r m t) s unnamed phases) v q 4,
+)
+
+-- 16 of send and of copy: the place behind the mark is one of the medium's
+pub send-room : (mark issued N : ℕ) → not (eqb (mark + 1) issued) ≡ false → issued ≤ N → mark < N
+send-room mark issued N e l = omega (arith, eqb-true (mark + 1) issued (not-false (eqb (mark + 1) issued) e))
+
+pub copy-room : (mark source N : ℕ) → not (ltb mark source) ≡ false → source ≤ N → mark < N
+copy-room mark source N e l = omega (arith, ltb-true mark source (not-false (ltb mark source) e))
+
+-- a medium's end is a number of the machine
+pub span-fits : (N i : ℕ) → N ≤ placesLimit → i < 7 → (i * mediumSize N < 2 ^ 64) × (i * mediumSize N + mediumSize N < 2 ^ 64)
+span-fits N i n l =
+    let p : i * mediumSize N ≤ 7 * 64064 = mul-le-mul {n₂ = 7} {m₂ = 64064} (omega arith) (omega arith) in
+    (omega arith, omega arith)
+
+-- 4 of copy
+pub both-named : (r a b : ℕ) → notTwo r a b ≡ false → (a < r) × (b < r)
+both-named r a b e =
+    let q = neither (leb r a) (leb r b) (neither (leb r a || leb r b) (eqb a b) e .0) in
+    (leb-false r a (q .0), leb-false r b (q .1))
+
+-- 16 of read: the place is one of the medium's
+pub readable : (v : Server) (i n : ℕ) → nothingToRead v i n ≡ false → (1 ≤ n) × (n ≤ markAt v i)
+readable v i n e =
+    let a = neither (eqb n 0 || ltb (markAt v i) n) (ltb (v .acked) n) e in
+    let b = neither (eqb n 0) (ltb (markAt v i) n) (a .0) in
+    let z = eqb-false n 0 (b .0) in
+    ((⊎-elim (λ (l : n < 1). absurd (z (omega arith))) (λ l. l) (lt-or-le n 1)), ltb-false (markAt v i) n (b .1))

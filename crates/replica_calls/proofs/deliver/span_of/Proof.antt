@@ -1,0 +1,24 @@
+use native.Mathlib.Omega.{arith}
+use mathlib.Core.Path.{refl}
+use Rattle.replica_calls.proofs.Known.{span-fits}
+use borrow.Author.Needs.{needs}
+use Rattle.replica_calls.proofs.deliver.span_of.Statement.{statement}
+use Rattle.replica_calls.proofs.deliver.span_of.Tie as tie
+
+medium-size-requires : tie.Need-medium-size-requires
+medium-size-requires c κs = search needs
+
+mul-t4 : tie.Need-mul-t4
+mul-t4 c = rw (c .medium-size .ensures) (omega (arith, span-fits _ _ (c .before .pre .0) (c .before .pre .1) .0))
+
+mul-t5 : tie.Need-mul-t5
+mul-t5 c = rw (c .medium-size .ensures) (omega (arith, span-fits _ _ (c .before .pre .0) (c .before .pre .1) .0))
+
+add-t6 : tie.Need-add-t6
+add-t6 c = rw (c .medium-size .ensures) (omega (arith, span-fits _ _ (c .before .pre .0) (c .before .pre .1) .1))
+
+returns : tie.Need-returns
+returns c = rw (c .medium-size .ensures) (refl, refl)
+
+pub span-of-spec : {M : Type 1} → statement M
+span-of-spec = tie.close (tie.spec medium-size-requires mul-t4 mul-t5 add-t6 returns)

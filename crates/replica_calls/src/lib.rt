@@ -1,0 +1,9 @@
+// The calls that send a message to a replica: prepare, trim, note, send, copy and read. Each is admitted, checked before its message, and
+// has a replica do an operation, whose answer the server hears.
+pub mod calls;
+pub mod copy;
+pub mod deliver;
+pub mod fates;
+pub mod hear;
+pub mod plan;
+pub mod read;

@@ -4,13 +4,14 @@
 --   read-back      for all fields of their widths and data of 0 to 28 bytes, the record written for ID n is a valid place n, and reading
 --                  it gives the same ID, client, generation, partition, sequence, header, length and data
 --   only-records   64 bytes are a valid place n exactly if they are the record written for some fields with ID n
+--   sizes          the sizes that specs/Sizes names are those of the layouts
 --   only-slots     32 bytes are a valid slot exactly if they are the slot written for some fields (that these are read back: SlotReadBack)
 -- Assumes nothing.
 use mathlib.Core.Path.{_≡_, refl, sym, ap, ap₂, _∙_}
 use mathlib.Core.Logic.{_↔_}
 use mathlib.Core.Bool.{Bool, true, _&&_}
 use mathlib.Core.List.{List}
-use Prim.Native.Nat.{ℕ, _≤_}
+use Prim.Native.Nat.{ℕ, _*_, _≤_}
 use native.Mathlib.Nat.{lt-of-le-of-lt}
 use native.Mathlib.Omega.{arith}
 use lib.Dec.{eqb, lit<}
@@ -19,8 +20,8 @@ use borrow.Author.Tests.{eq-eqb}
 use Rattle.octets.specs.Octets.{numbersAt, Fits, Bytes}
 use Rattle.storage.specs.declared.place.Fields.{Fields}
 use Rattle.storage.specs.declared.slot.Slot.{Slot}
-use Rattle.storage.specs.Layout.{recordOf}
-use Rattle.storage.specs.Sizes.{placeLayout, slotLayout, dataLimit}
+use Rattle.storage.specs.Layout.{layoutSize, recordOf}
+use Rattle.storage.specs.Sizes.{placeLayout, slotLayout, dataLimit, slotSize, slotsSize, placeSize}
 use Rattle.storage.specs.Places.{placeNumbers, recordBytes, idOf, sizeOf, fieldsIn, dataOf, validPlace, Fitting}
 use Rattle.storage.specs.Slots.{slotBytes, slotOf, validSlot, FittingSlot}
 use Rattle.storage.proofs.Layouts as layout
@@ -61,7 +62,13 @@ pub record SlotWritten (s : List ℕ) : Type 0 where
 abbrev pub OnlySlots : Type 0
 OnlySlots = (s : List ℕ) → Bytes s → (validSlot s ≡ true) ↔ SlotWritten s
 
+abbrev pub Sizes : Type 0
+Sizes = (slotSize ≡ layoutSize slotLayout) × (slotsSize ≡ 2 * slotSize) × (placeSize ≡ layoutSize placeLayout)
+
 -- ================ the proofs
+
+pub sizes : Sizes
+sizes = (refl, refl, refl)
 
 module _ (f : Fields) (d : List ℕ) (w : Fitting f) (short : length d ≤ dataLimit) where
   fits : Fits (placeNumbers f (length d))

@@ -1,15 +1,14 @@
--- A number and its bytes, over the width; numbers in a row, over the place.
+-- A number and its bytes, over the width; numbers written one behind the other.
 -- Assumes nothing.
 use mathlib.Core.Path.{_≡_, refl, sym, ap, ap₂, _∙_}
 use mathlib.Core.List.{List, [], _∷_, _++_, append-assoc, append-nil}
 use Prim.Native.Nat.{ℕ, zero, suc, _+_, _-_, _*_, _/_, _%_, _^_, _<_, _≤_}
-use native.Mathlib.Nat.{not-suc-le-zero, le-of-suc-le-suc, pow-suc, div-add-mod', div-lt-iff-lt-mul, mod-lt, zero-lt-suc, add-assoc, add-zero, zero-add, add-suc, suc-add}
+use native.Mathlib.Nat.{pow-suc, div-add-mod', div-lt-iff-lt-mul, mod-lt, zero-lt-suc, add-assoc, add-zero, zero-add, add-suc, suc-add}
 use native.Mathlib.Omega.{arith}
 use lib.Dec.{lit<}
 use lib.Arith.{lt-one, digits-div, digits-mod}
-use lib.ListN.{length, getD, take, drop, length-append}
-use lib.Seq.{take-at, drop-append-add}
-use Rattle.octets.specs.Octets.{part, writeAt, beFrom, beOf, beBytes, fieldsOf, Bytes}
+use lib.ListN.{length, length-append}
+use Rattle.octets.specs.Octets.{writeAt, beFrom, beOf, beBytes, fieldsOf, widthsOf, total, Bytes}
 use Rattle.octets.proofs.Laws.{length-be, write-write}
 
 be-append : (a : ℕ) (s t : List ℕ) → beFrom a (s ++ t) ≡ beFrom (beFrom a s) t
@@ -44,32 +43,7 @@ pub bytes-back : (s : List ℕ) → Bytes s → beBytes (length s) (beOf s) ≡ 
 unfolding beOf beBytes
 bytes-back s p = ap (λ (n : ℕ). beBytes n (beFrom 0 s)) (sym (zero-add (length s))) ∙ bytes-after 0 0 s p
 
--- where the i-th of numbers in a row begins
-abbrev pub offset : ℕ → List (ℕ × ℕ) → ℕ
-offset i [] = 0
-offset zero (f ∷ fs) = 0
-offset (suc i) (f ∷ fs) = f .0 + offset i fs
-
-pub field-at : (fs : List (ℕ × ℕ)) (rest : List ℕ) (i : ℕ) → i < length fs
-    → part (offset i fs) (getD fs i (0, 0) .0) (fieldsOf fs ++ rest) ≡ beBytes (getD fs i (0, 0) .0) (getD fs i (0, 0) .1)
-unfolding fieldsOf
-field-at [] rest i h = absurd (not-suc-le-zero h)
-field-at (f ∷ fs) rest zero h =
-    ap (take (f .0)) (append-assoc (beBytes (f .0) (f .1)) (fieldsOf fs) rest) ∙ take-at (beBytes (f .0) (f .1)) (fieldsOf fs ++ rest) (f .0) (length-be (f .0) (f .1))
-field-at (f ∷ fs) rest (suc i) h =
-    let b = beBytes (f .0) (f .1) in
-    let r = fieldsOf fs ++ rest in
-    ap (λ (l : List ℕ). take (getD fs i (0, 0) .0) (drop (f .0 + offset i fs) l)) (append-assoc b (fieldsOf fs) rest)
-    ∙ ap (λ (n : ℕ). take (getD fs i (0, 0) .0) (drop (n + offset i fs) (b ++ r))) (sym (length-be (f .0) (f .1)))
-    ∙ ap (take (getD fs i (0, 0) .0)) (drop-append-add b r (offset i fs))
-    ∙ field-at fs rest i (le-of-suc-le-suc h)
-
--- how many bytes numbers in a row take
-abbrev pub widths : List (ℕ × ℕ) → ℕ
-widths [] = 0
-widths (f ∷ fs) = f .0 + widths fs
-
-pub length-fields : (fs : List (ℕ × ℕ)) → length (fieldsOf fs) ≡ widths fs
+pub length-fields : (fs : List (ℕ × ℕ)) → length (fieldsOf fs) ≡ total (widthsOf fs)
 unfolding fieldsOf
 length-fields [] = refl
 length-fields (f ∷ fs) = length-append (beBytes (f .0) (f .1)) (fieldsOf fs) ∙ ap₂ (λ (a b : ℕ). a + b) (length-be (f .0) (f .1)) (length-fields fs)
@@ -88,10 +62,10 @@ pub first-field : (o k v : ℕ) (m l : List ℕ) → l ≡ writeAt o (beBytes k 
 first-field o k v m l e = e ∙ ap (λ (r : List ℕ). writeAt o r m) (sym (field-one k v))
 
 pub next-field : (fs : List (ℕ × ℕ)) (o k v : ℕ) (m l l′ : List ℕ) → o ≤ length m
-    → l ≡ writeAt o (fieldsOf fs) m → l′ ≡ writeAt (o + widths fs) (beBytes k v) l → l′ ≡ writeAt o (fieldsOf (fs ++ ((k, v) ∷ []))) m
+    → l ≡ writeAt o (fieldsOf fs) m → l′ ≡ writeAt (o + total (widthsOf fs)) (beBytes k v) l → l′ ≡ writeAt o (fieldsOf (fs ++ ((k, v) ∷ []))) m
 next-field fs o k v m l l′ h e e′ =
-    e′ ∙ ap (writeAt (o + widths fs) (beBytes k v)) e
-    ∙ write-write o (o + widths fs) (fieldsOf fs) (beBytes k v) m h (ap (λ (n : ℕ). o + n) (length-fields fs))
+    e′ ∙ ap (writeAt (o + total (widthsOf fs)) (beBytes k v)) e
+    ∙ write-write o (o + total (widthsOf fs)) (fieldsOf fs) (beBytes k v) m h (ap (λ (n : ℕ). o + n) (length-fields fs))
     ∙ ap (λ (r : List ℕ). writeAt o r m) (ap (λ (r : List ℕ). fieldsOf fs ++ r) (sym (field-one k v)) ∙ sym (fields-append fs ((k, v) ∷ [])))
 
 -- what spells numbers are bytes

@@ -16,7 +16,7 @@ use Rattle.storage.proofs.PlaceCases.{bad-id}
 
 module _ (g : List ℕ) (size : length g ≡ placeSize) where
   other : (n : ℕ) → (idOf g ≡ n → ⊥) → validPlace n g ≡ false
-  other n h = sym (bad-id n g size h)
+  other n h = sym (bad-id n g h)
 
   none-below : (N : ℕ) → (idOf g ≡ 0) ⊎ (N < idOf g) → passesAsPlace N g ≡ false
   unfolding passesAsPlace

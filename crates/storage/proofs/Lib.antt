@@ -1,6 +1,6 @@
+pub mod Layouts
 pub mod PlaceCases
 pub mod RecordWritten
-pub mod ReadBack
 pub mod SlotReadBack
 pub mod Records
 pub mod GivenCases

@@ -23,7 +23,7 @@ length-wiped = refl
 -- 64 zeros are no record
 pub wiped-invalid : (n : ℕ) → 1 ≤ n → validPlace n wiped ≡ false
 unfolding wiped idOf beOf beFrom
-wiped-invalid n h = sym (bad-id n wiped refl (λ e. omega (arith, e)))
+wiped-invalid n h = sym (bad-id n wiped (λ e. omega (arith, e)))
 
 -- soundness, over the list of places
 clean-of : (N : ℕ) (m : List ℕ) → Sound N m → Clean 1 (placesFrom N 1 m)

@@ -1,49 +1,51 @@
 -- The head of a place, written in three pieces.
 -- Assumes nothing.
-use mathlib.Core.Path.{_≡_, refl, sym, ap, ap₂, _∙_}
-use mathlib.Core.List.{List, [], _∷_, _++_}
+use mathlib.Core.Path.{_≡_, refl, sym, ap, _∙_}
+use mathlib.Core.List.{List, _++_}
 use Prim.Native.Nat.{ℕ, _+_, _-_, _≤_, zero-le}
 use native.Mathlib.Omega.{arith}
 use borrow.Rule.Slice.PartMut.{putMid}
-use lib.ListN.{length, take, drop, replicate, length-append, length-replicate}
-use Rattle.octets.specs.Octets.{writeAt, fieldsOf}
+use lib.ListN.{length, take, drop, replicate, length-replicate}
+use Rattle.octets.specs.Octets.{writeAt, fieldsOf, offsetOf}
 use Rattle.octets.proofs.Laws.{write-write, mid-write, length-write, length-between}
 use Rattle.octets.proofs.Numbers.{fields-append, length-fields}
 use Rattle.storage.specs.declared.place.Fields.{Fields}
-use Rattle.storage.specs.Places.{lowerNumbers, upperNumbers, padded, recordHead}
-
-pub length-padded : (d : List ℕ) → length d ≤ 28 → length (padded d) ≡ 28
-unfolding padded
-length-padded d h = simp (length-append, length-replicate) (omega arith)
+use Rattle.storage.specs.Layout.{dataOffset, checkOffset, padded, headOf}
+use Rattle.storage.specs.Sizes.{placeLayout, dataLimit, placeSize}
+use Rattle.storage.specs.Places.{placeNumbers}
 
 -- the data written, and what lies behind them cleared
-pub fill-written : (d m l z : List ℕ) → length m ≡ 64 → length d ≤ 28 → l ≡ writeAt 32 d m
-    → z ≡ replicate (length (take (60 - (32 + length d)) (drop (32 + length d) l))) 0
-    → putMid (32 + length d) (60 - (32 + length d)) l z ≡ writeAt 32 (padded d) m
-unfolding padded
+pub fill-written : (d m l z : List ℕ) → length m ≡ placeSize → length d ≤ dataLimit → l ≡ writeAt (dataOffset placeLayout) d m
+    → let k = dataOffset placeLayout + length d in z ≡ replicate (length (take (checkOffset placeLayout - k) (drop k l))) 0
+    → putMid k (checkOffset placeLayout - k) l z ≡ writeAt (dataOffset placeLayout) (padded placeLayout d) m
 fill-written d m l z hm hd e f =
-    let k = 32 + length d in
-    let n : length l ≡ 64 = ap length e ∙ length-write 32 d m (omega arith) ∙ hm in
-    let q : length (take (60 - k) (drop k l)) ≡ 28 - length d = length-between k 60 l (omega arith) (omega arith) ∙ omega arith in
-    let r : k + length (replicate {A = ℕ} (28 - length d) 0) ≡ 60 = simp length-replicate (omega arith) in
-    mid-write k 60 l z (replicate (28 - length d) 0) r (f ∙ ap (λ (i : ℕ). replicate i 0) q)
-    ∙ ap (writeAt k (replicate (28 - length d) 0)) e
-    ∙ write-write 32 k d (replicate (28 - length d) 0) m (omega arith) refl
+    let o = dataOffset placeLayout in
+    let c = checkOffset placeLayout in
+    let k = o + length d in
+    let n : length l ≡ placeSize = ap length e ∙ length-write o d m (omega arith) ∙ hm in
+    let q : length (take (c - k) (drop k l)) ≡ dataLimit - length d = length-between k c l (omega arith) (omega arith) ∙ omega arith in
+    let r : k + length (replicate {A = ℕ} (dataLimit - length d) 0) ≡ c = simp length-replicate (omega arith) in
+    mid-write k c l z (replicate (dataLimit - length d) 0) r (f ∙ ap (λ (i : ℕ). replicate i 0) q)
+    ∙ ap (writeAt k (replicate (dataLimit - length d) 0)) e
+    ∙ write-write o k d (replicate (dataLimit - length d) 0) m (omega arith) refl
 
-pub length-head : (t : Fields) (d : List ℕ) → length d ≤ 28 → length (recordHead t d) ≡ 60
-unfolding recordHead
-length-head t d h =
-    length-append (fieldsOf (lowerNumbers t ++ upperNumbers t (length d))) (padded d)
-    ∙ ap₂ (λ (a b : ℕ). a + b) (length-fields (lowerNumbers t ++ upperNumbers t (length d))) (length-padded d h)
+module _ (t : Fields) (d m : List ℕ) where
+  lower : List (ℕ × ℕ)
+  lower = take 4 (placeNumbers t 0)
 
-pub head-written : (t : Fields) (d m l₁ l₂ l₃ : List ℕ) → l₁ ≡ writeAt 0 (fieldsOf (lowerNumbers t)) m
-    → l₂ ≡ writeAt 20 (fieldsOf (upperNumbers t (length d))) l₁ → l₃ ≡ writeAt 32 (padded d) l₂ → l₃ ≡ writeAt 0 (recordHead t d) m
-unfolding recordHead
-head-written t d m l₁ l₂ l₃ e₁ e₂ e₃ =
-    let fs = lowerNumbers t in
-    let gs = upperNumbers t (length d) in
-    let w₂ : l₂ ≡ writeAt 0 (fieldsOf (fs ++ gs)) m =
-    e₂ ∙ ap (writeAt 20 (fieldsOf gs)) e₁ ∙ write-write 0 20 (fieldsOf fs) (fieldsOf gs) m zero-le (ap (λ (n : ℕ). 0 + n) (length-fields fs))
-    ∙ ap (λ (r : List ℕ). writeAt 0 r m) (sym (fields-append fs gs)) in
-    e₃ ∙ ap (writeAt 32 (padded d)) w₂
-    ∙ write-write 0 32 (fieldsOf (fs ++ gs)) (padded d) m zero-le (ap (λ (n : ℕ). 0 + n) (length-fields (fs ++ gs)))
+  upper : List (ℕ × ℕ)
+  upper = drop 4 (placeNumbers t (length d))
+
+  pub head-written : (l₁ l₂ l₃ : List ℕ) → l₁ ≡ writeAt 0 (fieldsOf (take 4 (placeNumbers t 0))) m
+      → l₂ ≡ writeAt (offsetOf (placeLayout .widths) 4) (fieldsOf (drop 4 (placeNumbers t (length d)))) l₁
+      → l₃ ≡ writeAt (dataOffset placeLayout) (padded placeLayout d) l₂ → l₃ ≡ writeAt 0 (headOf placeLayout (placeNumbers t (length d)) d) m
+  unfolding lower upper
+  head-written l₁ l₂ l₃ e₁ e₂ e₃ =
+      let o = offsetOf (placeLayout .widths) 4 in
+      let w₂ : l₂ ≡ writeAt 0 (fieldsOf (placeNumbers t (length d))) m =
+      e₂ ∙ ap (writeAt o (fieldsOf upper)) e₁
+      ∙ write-write 0 o (fieldsOf lower) (fieldsOf upper) m zero-le (ap (λ (n : ℕ). 0 + n) (length-fields lower))
+      ∙ ap (λ (r : List ℕ). writeAt 0 r m) (sym (fields-append lower upper)) in
+      e₃ ∙ ap (writeAt (dataOffset placeLayout) (padded placeLayout d)) w₂
+      ∙ write-write 0 (dataOffset placeLayout) (fieldsOf (placeNumbers t (length d))) (padded placeLayout d) m zero-le
+      (ap (λ (n : ℕ). 0 + n) (length-fields (placeNumbers t (length d))))

@@ -1,26 +1,32 @@
--- Stored records read back as the same fields, and only the layout's records are read (condition 2).
+-- Stored records read back as the same fields, and only the layout's records are read (condition 2). Both are proofs/Layouts' laws, for
+-- the layout of a place and that of a slot.
 --
 --   read-back      for all fields of their widths and data of 0 to 28 bytes, the record written for ID n is a valid place n, and reading
 --                  it gives the same ID, client, generation, partition, sequence, header, length and data
 --   only-records   64 bytes are a valid place n exactly if they are the record written for some fields with ID n
+--   sizes          the sizes that specs/Sizes names are those of the layouts
+--   only-slots     32 bytes are a valid slot exactly if they are the slot written for some fields (that these are read back: SlotReadBack)
 -- Assumes nothing.
 use mathlib.Core.Path.{_≡_, refl, sym, ap, ap₂, _∙_}
 use mathlib.Core.Logic.{_↔_}
-use mathlib.Core.Bool.{true}
-use mathlib.Core.List.{List, [], _∷_, _++_}
-use Prim.Native.Nat.{ℕ, _+_, _-_, _≤_}
+use mathlib.Core.Bool.{Bool, true, _&&_}
+use mathlib.Core.List.{List}
+use Prim.Native.Nat.{ℕ, _*_, _≤_}
+use native.Mathlib.Nat.{lt-of-le-of-lt}
 use native.Mathlib.Omega.{arith}
-use lib.ListN.{length, take, drop, replicate}
-use Rattle.octets.specs.Octets.{part, beOf, fieldsOf, Bytes, allZero}
-use Rattle.octets.proofs.Laws.{length-part}
-use Rattle.octets.proofs.Reading.{bytes-part, part-lt, parts-join, numbersAt, numbers-back, zeros-are}
-use Rattle.crc32.specs.Crc32.{checked, sealed}
-use Rattle.crc32.proofs.Sealed.{checked-sealed}
+use lib.Dec.{eqb, lit<}
+use lib.ListN.{length, getD}
+use borrow.Author.Tests.{eq-eqb}
+use Rattle.octets.specs.Octets.{numbersAt, Fits, Bytes}
 use Rattle.storage.specs.declared.place.Fields.{Fields}
-use Rattle.storage.specs.Sizes.{headerSize, dataLimit, placeSize, checkSize}
-use Rattle.storage.specs.Places.{lowerNumbers, upperNumbers, padded, recordHead, recordBytes, idOf, sizeOf, fieldsIn, dataOf, validPlace, Fitting}
-use Rattle.storage.proofs.ReadBack.{id-back, size-back, fields-back, data-back, record-length, record-valid}
-use Rattle.storage.proofs.PlaceCases.{Tests, valid-tests}
+use Rattle.storage.specs.declared.slot.Slot.{Slot}
+use Rattle.storage.specs.Layout.{layoutSize, recordOf}
+use Rattle.storage.specs.Sizes.{placeLayout, slotLayout, dataLimit, slotSize, slotsSize, placeSize}
+use Rattle.storage.specs.Places.{placeNumbers, recordBytes, idOf, sizeOf, fieldsIn, dataOf, validPlace, Fitting}
+use Rattle.storage.specs.Slots.{slotBytes, slotOf, validSlot, FittingSlot}
+use Rattle.storage.proofs.Layouts as layout
+use Rattle.storage.proofs.SlotReadBack.{slot-valid}
+use Rattle.storage.proofs.PlaceCases.{valid-tests}
 
 -- ================ the statements
 
@@ -47,67 +53,91 @@ ReadBack = (f : Fields) (d : List ℕ) → Fitting f → length d ≤ dataLimit 
 abbrev pub OnlyRecords : Type 0
 OnlyRecords = (n : ℕ) (s : List ℕ) → Bytes s → (validPlace n s ≡ true) ↔ Written n s
 
+-- the slot written for some fields
+pub record SlotWritten (s : List ℕ) : Type 0 where
+  pub slot : Slot
+  pub fitting : FittingSlot slot
+  pub same : s ≡ slotBytes slot
+
+abbrev pub OnlySlots : Type 0
+OnlySlots = (s : List ℕ) → Bytes s → (validSlot s ≡ true) ↔ SlotWritten s
+
+abbrev pub Sizes : Type 0
+Sizes = (slotSize ≡ layoutSize slotLayout) × (slotsSize ≡ 2 * slotSize) × (placeSize ≡ layoutSize placeLayout)
+
 -- ================ the proofs
 
-pub read-back : ReadBack
-read-back f d w h b =
-    record { valid = record-valid f d w h b; fields = fields-back f d w h; size = size-back f d w h; content = data-back f d w h }
+pub sizes : Sizes
+sizes = (refl, refl, refl)
 
-module _ (n : ℕ) (s : List ℕ) (b : Bytes s) (v : Tests n s) where
-  room : headerSize + sizeOf s ≤ length s
-  room = omega (arith, v .short, v .size)
+module _ (f : Fields) (d : List ℕ) (w : Fitting f) (short : length d ≤ dataLimit) where
+  fits : Fits (placeNumbers f (length d))
+  fits =
+      (w .id, (w .client, (w .generation, (w .partition, (w .sequence, (w .header, (lt-of-le-of-lt short (lit< tt), tt)))))))
 
-  data-size : length (dataOf s) ≡ sizeOf s
-  unfolding dataOf
-  data-size = length-part headerSize (sizeOf s) s room
+  -- the i-th number is read back
+  number : (i : ℕ) → getD (numbersAt (placeLayout .widths) 0 (recordBytes f d)) i (0, 0) .1 ≡ getD (placeNumbers f (length d)) i (0, 0) .1
+  unfolding recordBytes
+  number i = ap (λ (l : List (ℕ × ℕ)). getD l i (0, 0) .1) (layout.numbers-again placeLayout (placeNumbers f (length d)) d refl short fits)
 
-  -- the numbers, read and written again, are the first 32 bytes
-  numbers-again : fieldsOf (lowerNumbers (fieldsIn s) ++ upperNumbers (fieldsIn s) (sizeOf s)) ≡ part 0 headerSize s
-  unfolding fieldsIn idOf sizeOf
-  numbers-again = numbers-back (8 ∷ 4 ∷ 4 ∷ 4 ∷ 4 ∷ 4 ∷ 4 ∷ []) 0 s b (omega (arith, v .size))
+  size : sizeOf (recordBytes f d) ≡ length d
+  unfolding sizeOf
+  size = number 6
 
-  -- the data and the zeros behind them are the next 28
-  data-again : padded (dataOf s) ≡ part headerSize dataLimit s
-  unfolding padded dataOf
-  data-again =
-      let k = sizeOf s in
-      let z = part (headerSize + k) (dataLimit - k) s in
-      let l : length z ≡ dataLimit - k = length-part (headerSize + k) (dataLimit - k) s (omega (arith, v .short, v .size)) in
-      let tail : replicate (dataLimit - length (part headerSize k s)) 0 ≡ z =
-      ap (λ (i : ℕ). replicate (dataLimit - i) 0) data-size ∙ ap (λ (i : ℕ). replicate i 0) (sym l) ∙ sym (zeros-are z (v .tail)) in
-      let whole : k + (dataLimit - k) ≡ dataLimit = omega (arith, v .short) in
-      ap (λ (r : List ℕ). part headerSize k s ++ r) tail ∙ parts-join headerSize k (dataLimit - k) s ∙ ap (λ (i : ℕ). part headerSize i s) whole
+  same-id : idOf (recordBytes f d) ≡ f .id
+  unfolding idOf
+  same-id = number 0
 
-  head-again : recordHead (fieldsIn s) (dataOf s) ≡ take (placeSize - checkSize) s
-  unfolding recordHead
-  head-again =
-      ap₂ (λ (x y : List ℕ). x ++ y)
-      (ap (λ (k : ℕ). fieldsOf (lowerNumbers (fieldsIn s) ++ upperNumbers (fieldsIn s) k)) data-size ∙ numbers-again) data-again
-      ∙ parts-join 0 headerSize dataLimit s
-
-  written : Written n s
-  unfolding recordBytes fieldsIn idOf dataOf
-  written =
-      record {
-        fields = fieldsIn s;
-        content = dataOf s;
-        fitting =
-            record {
-              id = part-lt 0 8 s b (omega (arith, v .size));
-              client = part-lt 8 4 s b (omega (arith, v .size));
-              generation = part-lt 12 4 s b (omega (arith, v .size));
-              partition = part-lt 16 4 s b (omega (arith, v .size));
-              sequence = part-lt 20 4 s b (omega (arith, v .size));
-              header = part-lt 24 4 s b (omega (arith, v .size));
-            };
-        short = omega (arith, data-size, v .short);
-        bytes = bytes-part headerSize (sizeOf s) s b;
-        id = v .id;
-        same = checked-sealed (placeSize - checkSize) s b (v .size) (v .check) ∙ ap sealed (sym head-again);
+  fields : fieldsIn (recordBytes f d) ≡ f
+  unfolding fieldsIn
+  fields =
+      λ i. record {
+        id = same-id i;
+        client = number 1 i;
+        generation = number 2 i;
+        partition = number 3 i;
+        sequence = number 4 i;
+        header = number 5 i;
       }
+
+  content : dataOf (recordBytes f d) ≡ d
+  unfolding dataOf recordBytes
+  content = rw size (layout.data-again placeLayout (placeNumbers f (length d)) d refl short)
+
+  valid : Bytes d → validPlace (f .id) (recordBytes f d) ≡ true
+  unfolding validPlace recordBytes
+  valid b = rw (eq-eqb (idOf (recordBytes f d)) (f .id) same-id, size) (layout.record-formed placeLayout (placeNumbers f (length d)) d refl short b)
+
+pub read-back : ReadBack
+read-back f d w h b = record { valid = valid f d w h b; fields = fields f d w h; size = size f d w h; content = content f d w h }
+
+written : (n : ℕ) (s : List ℕ) → Bytes s → validPlace n s ≡ true → Written n s
+unfolding recordBytes fieldsIn idOf sizeOf dataOf
+written n s b e =
+    let v = valid-tests n s e in
+    let r = layout.rewritten placeLayout (sizeOf s) s b (v .form) in
+    let w = r .fitting in
+    record {
+      fields = fieldsIn s;
+      content = dataOf s;
+      fitting = record { id = w .0; client = w .1 .0; generation = w .1 .1 .0; partition = w .1 .1 .1 .0; sequence = w .1 .1 .1 .1 .0; header = w .1 .1 .1 .1 .1 .0 };
+      short = omega (arith, r .size, v .short);
+      bytes = r .bytes;
+      id = v .id;
+      same = r .same ∙ ap (λ (k : ℕ). recordOf placeLayout (placeNumbers (fieldsIn s) k) (dataOf s)) (sym (r .size));
+    }
 
 pub only-records : OnlyRecords
 only-records n s b = (
-  λ v. written n s b (valid-tests n s v),
+  written n s b,
   λ w. ap₂ validPlace (sym (w .id)) (w .same) ∙ read-back (w .fields) (w .content) (w .fitting) (w .short) (w .bytes) .valid,
 )
+
+slot-written : (s : List ℕ) → Bytes s → validSlot s ≡ true → SlotWritten s
+unfolding validSlot slotBytes slotOf
+slot-written s b e =
+    let r = layout.rewritten slotLayout 0 s b (layout.tests slotLayout 0 s e) in
+    record { slot = slotOf s; fitting = record { promise = r .fitting .0; low = r .fitting .1 .0; local = r .fitting .1 .1 .0 }; same = r .same }
+
+pub only-slots : OnlySlots
+only-slots s b = (slot-written s b, λ w. ap validSlot (w .same) ∙ slot-valid (w .slot))

@@ -1,3 +1,4 @@
+pub mod Layout
 pub mod Sizes
 pub mod Places
 pub mod Slots

@@ -1,27 +1,34 @@
--- Sizes and offsets of a medium, each named once. Document 01, "Medium: 64 + 64 × N bytes".
+-- The layouts, sizes and limits of a medium, each named once. Document 01, "Medium: 64 + 64 × N bytes". That the sizes are the layouts'
+-- is the law `sizes` of proofs/Records.
 -- Assumes nothing.
+use mathlib.Core.List.{[], _∷_}
 use Prim.Native.Nat.{ℕ, _+_, _-_, _*_}
+use Rattle.storage.specs.Layout.{Layout}
 
--- "Two slots of 32 bytes": 28 bytes and their check
+-- "promised session (8), low-water mark (8), local low-water mark (8), zeros (4), CRC-32 of the 28 bytes before (4)"
+abbrev pub slotLayout : Layout
+slotLayout = record { widths = 8 ∷ 8 ∷ 8 ∷ []; limit = 0; zeros = 4 }
+
+-- "Two slots of 32 bytes"
 abbrev pub slotSize : ℕ
 slotSize = 32
 
-abbrev pub checkSize : ℕ
-checkSize = 4
-
--- a place: the numbers before the data (32), the data (28), the check (4)
-abbrev pub headerSize : ℕ
-headerSize = 32
-
+-- "data length 0 to 28"
 abbrev pub dataLimit : ℕ
 dataLimit = 28
 
+-- "ID (8), client, generation, partition, sequence (4 each), header (4), data length 0 to 28 (4), data (28, zeros after the length),
+-- CRC-32 of the 60 bytes before (4)"
+abbrev pub placeLayout : Layout
+placeLayout = record { widths = 8 ∷ 4 ∷ 4 ∷ 4 ∷ 4 ∷ 4 ∷ 4 ∷ []; limit = dataLimit; zeros = 0 }
+
+-- "64 × N bytes"
 abbrev pub placeSize : ℕ
-placeSize = headerSize + dataLimit + checkSize
+placeSize = 64
 
 -- the two slots before the places
 abbrev pub slotsSize : ℕ
-slotsSize = 2 * slotSize
+slotsSize = 64
 
 -- "a medium of N places (1 to 1,000)"
 abbrev pub placesLimit : ℕ

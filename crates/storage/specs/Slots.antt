@@ -3,19 +3,18 @@
 use mathlib.Core.List.{List, [], _∷_}
 use mathlib.Core.Bool.{Bool, cond, _&&_, _||_}
 use mathlib.Core.Path.{_≡_}
-use Prim.Native.Nat.{ℕ, _-_, _^_, _<_}
-use lib.ListN.{length}
+use Prim.Native.Nat.{ℕ, _^_, _<_}
 use lib.Dec.{eqb, ltb}
-use Rattle.octets.specs.Octets.{part, beOf, fieldsOf, allZero}
-use Rattle.crc32.specs.Crc32.{checked, sealed}
+use Rattle.octets.specs.Octets.{part, paired}
 use Rattle.storage.specs.declared.slot.Slot.{Slot}
 use Rattle.storage.specs.declared.slot.Current.{Current}
 use Rattle.storage.specs.declared.slot.Current.the-variants.{First, Second, Neither}
-use Rattle.storage.specs.Sizes.{slotSize, checkSize}
+use Rattle.storage.specs.Layout.{recordOf, numberIn, formed}
+use Rattle.storage.specs.Sizes.{slotLayout, slotSize}
 
--- "promised session (8), low-water mark (8), local low-water mark (8), zeros (4)": widths and values
+-- "promised session, low-water mark, local low-water mark", each with its width
 abbrev pub slotNumbers : Slot → List (ℕ × ℕ)
-slotNumbers x = (8, x .promise) ∷ (8, x .low) ∷ (8, x .local) ∷ (4, 0) ∷ []
+slotNumbers x = paired (slotLayout .widths) (x .promise ∷ x .low ∷ x .local ∷ [])
 
 -- each number has its width: what the type u64 says of them
 pub record FittingSlot (x : Slot) : Type 0 where
@@ -23,16 +22,15 @@ pub record FittingSlot (x : Slot) : Type 0 where
   pub low : x .low < 2 ^ 64
   pub local : x .local < 2 ^ 64
 
--- "CRC-32 of the 28 bytes before (4)"
 unfoldable pub slotBytes : Slot → List ℕ
-slotBytes x = sealed (fieldsOf (slotNumbers x))
+slotBytes x = recordOf slotLayout (slotNumbers x) []
 
 unfoldable pub slotOf : List ℕ → Slot
-slotOf s = record { promise = beOf (part 0 8 s); low = beOf (part 8 8 s); local = beOf (part 16 8 s) }
+slotOf s = record { promise = numberIn slotLayout 0 s; low = numberIn slotLayout 1 s; local = numberIn slotLayout 2 s }
 
 -- "A slot is valid if its zeros are zero and its check agrees."
 unfoldable pub validSlot : List ℕ → Bool
-validSlot s = eqb (length s) slotSize && allZero (part 24 4 s) && checked (slotSize - checkSize) s
+validSlot s = formed slotLayout 0 s
 
 -- "Two slots of 32 bytes, at 0 and 32"
 abbrev pub firstOf : List ℕ → List ℕ

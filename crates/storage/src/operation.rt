@@ -13,6 +13,8 @@ ghost use Rattle.storage.specs.AsRead.{AsRead};
 ghost use Rattle.storage.specs.Given.{passes};
 use crate::medium;
 use crate::place;
+use crate::sizes::CLIENT_AT;
+use crate::sizes::ID_AT;
 use crate::sizes::SLOT;
 use crate::slot;
 use crate::slot::Current;
@@ -223,7 +225,7 @@ pub fn given_pass(t: &Tables, g: &[u8], places: u64) -> bool
     if slot::valid(t, &g[0..SLOT]) {
         return true;
     }
-    let n = octets::get_be(&g[0..8]);
+    let n = octets::get_be(&g[ID_AT..CLIENT_AT]);
     if n == 0 {
         return false;
     }

@@ -1,15 +1,25 @@
 // A place of the log: its record written and read, and its validity.
 ghost use mathlib.Core.Path.{_≡_};
 ghost use Prim.Native.Nat.{_+_, _≤_};
-ghost use lib.ListN.{length};
-ghost use Rattle.octets.specs.Octets.{part, writeAt, beOf, fieldsOf};
+ghost use lib.ListN.{length, take, drop};
+ghost use Rattle.octets.specs.Octets.{part, writeAt, beOf, fieldsOf, offsetOf};
 ghost use Rattle.crc32.specs.Tables.{tablesOf};
-ghost use Rattle.storage.specs.Sizes.{placeSize, headerSize, dataLimit};
-ghost use Rattle.storage.specs.Places.{validPlace, recordBytes, lowerNumbers, upperNumbers, padded, fieldsIn, sizeOf};
+ghost use Rattle.storage.specs.Layout.{dataOffset, padded};
+ghost use Rattle.storage.specs.Sizes.{placeLayout, placeSize, dataLimit};
+ghost use Rattle.storage.specs.Places.{validPlace, recordBytes, placeNumbers, fieldsIn, sizeOf};
+use crate::sizes::CLIENT_AT;
+use crate::sizes::DATA_AT;
 use crate::sizes::DATA_LIMIT;
-use crate::sizes::HEADER;
+use crate::sizes::GENERATION_AT;
+use crate::sizes::HEADER_AT;
+use crate::sizes::ID_AT;
+use crate::sizes::LENGTH_AT;
+use crate::sizes::LONG;
+use crate::sizes::PARTITION_AT;
 use crate::sizes::PLACE;
 use crate::sizes::PLACE_CHECKED;
+use crate::sizes::SEQUENCE_AT;
+use crate::sizes::WORD;
 use crc32::Tables;
 
 // The numbers of a record; its data lie beside them.
@@ -30,14 +40,14 @@ pub fn valid(t: &Tables, s: &[u8], n: u64) -> bool
     if s.len() != PLACE {
         return false;
     }
-    if octets::get_be(&s[0..8]) != n {
+    if octets::get_be(&s[ID_AT..CLIENT_AT]) != n {
         return false;
     }
-    let size = octets::get_be(&s[28..32]);
+    let size = octets::get_be(&s[LENGTH_AT..DATA_AT]);
     if (DATA_LIMIT as u64) < size {
         return false;
     }
-    let k = HEADER + size as usize;
+    let k = DATA_AT + size as usize;
     if !octets::all_zero(&s[k..PLACE_CHECKED]) {
         return false;
     }
@@ -47,32 +57,32 @@ pub fn valid(t: &Tables, s: &[u8], n: u64) -> bool
 // The first four numbers of a record.
 fn lower(out: &mut [u8], f: Fields)
     requires { ⌜ length (now out) ≡ placeSize ⌝ }
-    ensures { λ _. ⌜ now (out .exit) ≡ writeAt 0 (fieldsOf (lowerNumbers f)) (now (out .entry)) ⌝ }
+    ensures { λ _. ⌜ now (out .exit) ≡ writeAt 0 (fieldsOf (take 4 (placeNumbers f 0))) (now (out .entry)) ⌝ }
 {
-    octets::put_be(out, 0, 8, f.id);
-    octets::put_be(out, 8, 4, f.client as u64);
-    octets::put_be(out, 12, 4, f.generation as u64);
-    octets::put_be(out, 16, 4, f.partition as u64);
+    octets::put_be(out, ID_AT, LONG, f.id);
+    octets::put_be(out, CLIENT_AT, WORD, f.client as u64);
+    octets::put_be(out, GENERATION_AT, WORD, f.generation as u64);
+    octets::put_be(out, PARTITION_AT, WORD, f.partition as u64);
 }
 
 // The other three.
 fn upper(out: &mut [u8], f: Fields, n: usize)
     requires { ⌜ length (now out) ≡ placeSize ⌝ }
-    ensures { λ _. ⌜ now (out .exit) ≡ writeAt 20 (fieldsOf (upperNumbers f n)) (now (out .entry)) ⌝ }
+    ensures { λ _. ⌜ now (out .exit) ≡ writeAt (offsetOf (placeLayout .widths) 4) (fieldsOf (drop 4 (placeNumbers f n))) (now (out .entry)) ⌝ }
 {
-    octets::put_be(out, 20, 4, f.sequence as u64);
-    octets::put_be(out, 24, 4, f.header as u64);
-    octets::put_be(out, 28, 4, n as u64);
+    octets::put_be(out, SEQUENCE_AT, WORD, f.sequence as u64);
+    octets::put_be(out, HEADER_AT, WORD, f.header as u64);
+    octets::put_be(out, LENGTH_AT, WORD, n as u64);
 }
 
 // The data, with zeros behind them.
 fn fill(out: &mut [u8], d: &[u8])
     requires { ⌜ length (now out) ≡ placeSize ⌝ }
     requires { ⌜ length (now d) ≤ dataLimit ⌝ }
-    ensures { λ _. ⌜ now (out .exit) ≡ writeAt headerSize (padded (now (d .entry))) (now (out .entry)) ⌝ }
+    ensures { λ _. ⌜ now (out .exit) ≡ writeAt (dataOffset placeLayout) (padded placeLayout (now (d .entry))) (now (out .entry)) ⌝ }
 {
-    let k = HEADER + d.len();
-    octets::put(out, HEADER, d);
+    let k = DATA_AT + d.len();
+    octets::put(out, DATA_AT, d);
     octets::clear(&mut out[k..PLACE_CHECKED]);
 }
 
@@ -94,7 +104,7 @@ fn number(s: &[u8], at: usize) -> u32
     requires { ⌜ at + 4 ≤ length (now s) ⌝ }
     ensures { λ r. ⌜ r ≡ beOf (part at 4 (now (s .entry))) ⌝ }
 {
-    let e = at + 4;
+    let e = at + WORD;
     octets::get_be(&s[at..e]) as u32
 }
 
@@ -103,14 +113,14 @@ pub fn decode(s: &[u8]) -> Fields
     requires { ⌜ length (now s) ≡ placeSize ⌝ }
     ensures { λ r. ⌜ r ≡ fieldsIn (now (s .entry)) ⌝ }
 {
-    let id = octets::get_be(&s[0..8]);
+    let id = octets::get_be(&s[ID_AT..CLIENT_AT]);
     Fields {
         id: id,
-        client: number(s, 8),
-        generation: number(s, 12),
-        partition: number(s, 16),
-        sequence: number(s, 20),
-        header: number(s, 24),
+        client: number(s, CLIENT_AT),
+        generation: number(s, GENERATION_AT),
+        partition: number(s, PARTITION_AT),
+        sequence: number(s, SEQUENCE_AT),
+        header: number(s, HEADER_AT),
     }
 }
 
@@ -119,5 +129,5 @@ pub fn data_length(s: &[u8]) -> u32
     requires { ⌜ length (now s) ≡ placeSize ⌝ }
     ensures { λ r. ⌜ r ≡ sizeOf (now (s .entry)) ⌝ }
 {
-    number(s, 28)
+    number(s, LENGTH_AT)
 }

@@ -1,21 +1,50 @@
-// Sizes and limits of a medium, each named once: the code's side of specs/Sizes.
+// Sizes, offsets and limits of a medium, each named once: the code's side of specs/Sizes.
 ghost use mathlib.Core.Path.{_≡_};
 ghost use Prim.Native.Nat.{_≤_};
 ghost use Rattle.storage.specs.Sizes.{placesLimit, mediumSize};
 
-pub const SLOT: usize = 32;
+// The widths of numbers, and of a check.
+pub const LONG: usize = 8;
 
-pub const SLOTS: usize = 64;
+pub const WORD: usize = 4;
 
-pub const HEADER: usize = 32;
+pub const CHECK: usize = 4;
+// A slot's numbers, each behind the one before, its zeros and its check.
+pub const PROMISE_AT: usize = 0;
+
+pub const LOW_AT: usize = PROMISE_AT + LONG;
+
+pub const LOCAL_AT: usize = LOW_AT + LONG;
+
+pub const ZEROS_AT: usize = LOCAL_AT + LONG;
+
+pub const SLOT_CHECKED: usize = ZEROS_AT + WORD;
+
+pub const SLOT: usize = SLOT_CHECKED + CHECK;
+// The two slots before the places.
+pub const SLOTS: usize = 2 * SLOT;
+// A place's numbers, each behind the one before, its data and its check.
+pub const ID_AT: usize = 0;
+
+pub const CLIENT_AT: usize = ID_AT + LONG;
+
+pub const GENERATION_AT: usize = CLIENT_AT + WORD;
+
+pub const PARTITION_AT: usize = GENERATION_AT + WORD;
+
+pub const SEQUENCE_AT: usize = PARTITION_AT + WORD;
+
+pub const HEADER_AT: usize = SEQUENCE_AT + WORD;
+
+pub const LENGTH_AT: usize = HEADER_AT + WORD;
+
+pub const DATA_AT: usize = LENGTH_AT + WORD;
 
 pub const DATA_LIMIT: usize = 28;
 
-pub const PLACE: usize = 64;
-// What a check stands behind: the bytes of a slot, and of a place, before it.
-pub const SLOT_CHECKED: usize = 28;
+pub const PLACE_CHECKED: usize = DATA_AT + DATA_LIMIT;
 
-pub const PLACE_CHECKED: usize = 60;
+pub const PLACE: usize = PLACE_CHECKED + CHECK;
 // The most places of a medium.
 pub const PLACES_LIMIT: u64 = 1000;
 

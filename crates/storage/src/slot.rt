@@ -5,9 +5,15 @@ ghost use lib.ListN.{length};
 ghost use Rattle.crc32.specs.Tables.{tablesOf};
 ghost use Rattle.storage.specs.Sizes.{slotSize, slotsSize};
 ghost use Rattle.storage.specs.Slots.{validSlot, slotOf, slotBytes, newer, currentOf, heldOf, otherAt};
+use crate::sizes::LOCAL_AT;
+use crate::sizes::LONG;
+use crate::sizes::LOW_AT;
+use crate::sizes::PROMISE_AT;
 use crate::sizes::SLOT;
 use crate::sizes::SLOT_CHECKED;
 use crate::sizes::SLOTS;
+use crate::sizes::WORD;
+use crate::sizes::ZEROS_AT;
 use crc32::Tables;
 
 // What a slot holds: the promised session, the low-water mark and the local low-water mark.
@@ -31,7 +37,7 @@ pub fn valid(t: &Tables, s: &[u8]) -> bool
     if s.len() != SLOT {
         return false;
     }
-    if !octets::all_zero(&s[24..28]) {
+    if !octets::all_zero(&s[ZEROS_AT..SLOT_CHECKED]) {
         return false;
     }
     crc32::check(t, s, SLOT_CHECKED)
@@ -41,9 +47,9 @@ pub fn read(s: &[u8]) -> Slot
     requires { ⌜ length (now s) ≡ slotSize ⌝ }
     ensures { λ r. ⌜ r ≡ slotOf (now (s .entry)) ⌝ }
 {
-    let promise = octets::get_be(&s[0..8]);
-    let low = octets::get_be(&s[8..16]);
-    let local = octets::get_be(&s[16..24]);
+    let promise = octets::get_be(&s[PROMISE_AT..LOW_AT]);
+    let low = octets::get_be(&s[LOW_AT..LOCAL_AT]);
+    let local = octets::get_be(&s[LOCAL_AT..ZEROS_AT]);
     Slot {
         promise: promise,
         low: low,
@@ -56,10 +62,10 @@ pub fn encode(t: &Tables, out: &mut [u8], x: Slot)
     requires { ⌜ length (now out) ≡ slotSize ⌝ }
     ensures { λ _. ⌜ now (out .exit) ≡ slotBytes x ⌝ }
 {
-    octets::put_be(out, 0, 8, x.promise);
-    octets::put_be(out, 8, 8, x.low);
-    octets::put_be(out, 16, 8, x.local);
-    octets::put_be(out, 24, 4, 0);
+    octets::put_be(out, PROMISE_AT, LONG, x.promise);
+    octets::put_be(out, LOW_AT, LONG, x.low);
+    octets::put_be(out, LOCAL_AT, LONG, x.local);
+    octets::put_be(out, ZEROS_AT, WORD, 0);
     crc32::seal(t, out, SLOT_CHECKED);
 }
 

@@ -5,16 +5,14 @@ ghost use Prim.Native.Nat.{_≤_};
 ghost use lib.ListN.{length};
 ghost use Rattle.crc32.specs.Tables.{tablesOf};
 ghost use Rattle.storage.specs.Sizes.{placeSize, mediumSize};
-ghost use Rattle.storage.specs.AsRead.{AsRead};
 use crate::operation;
+use crate::operation::Asked;
 use crate::operation::Command;
-use crate::operation::Operation;
 use crate::records;
 use crc32::Tables;
 use fate::Fate;
-use storage::operation::Read;
+use storage::sizes;
 use storage::sizes::PLACE;
-use storage::sizes::SLOTS;
 use storage::slot::Current;
 use stored::fates;
 use stored::fates::Told;
@@ -38,7 +36,7 @@ pub fn answer(t: &Tables, line: &[u8], c: Command) -> bool
         return false;
     }
     let places = n as usize;
-    let size = SLOTS + PLACE * places;
+    let size = sizes::medium_size(n);
     let mut m = io::buffer();
     on_medium(t, line, c, places, &mut m[0..size])
 }
@@ -89,17 +87,15 @@ fn change(t: &Tables, line: &[u8], c: Command, places: usize, m: &mut [u8]) -> b
     requires { ⌜ now t ≡ tablesOf ⌝ }
     requires { ⌜ length (now m) ≡ mediumSize places ⌝ }
 {
-    let mut src = [0u8; PLACE];
-    let mut given = [0u8; PLACE];
-    let op = operation::read(line, c, &mut src);
     let k = operation::fate_field(c);
     let Told::Is(f) = fates::read(line, k) else {
         return false;
     };
+    let mut given = [0u8; PLACE];
     if !load(line, k + 3, &mut given, m) {
         return false;
     }
-    perform(t, m, places, op, &src, &given, f)
+    perform(t, line, c, places, m, &given, f)
 }
 
 // The given bytes from field k, and the medium behind them.
@@ -112,49 +108,28 @@ fn load(line: &[u8], k: usize, given: &mut [u8], m: &mut [u8]) -> bool
     hex::read(line::field(line, k + 1), m)
 }
 
-// An operation on what is read of the medium, by storage's proved code.
+// The operation of a line, on what is read of the medium, by storage's proved code.
 fn perform(
     t: &Tables,
-    m: &mut [u8],
+    line: &[u8],
+    c: Command,
     places: usize,
-    op: Operation,
-    src: &[u8],
+    m: &mut [u8],
     given: &[u8],
     f: Fate,
 ) -> bool
     requires { ⌜ now t ≡ tablesOf ⌝ }
     requires { ⌜ length (now m) ≡ mediumSize places ⌝ }
-    requires { ⌜ length (now src) ≡ placeSize ⌝ }
     requires { ⌜ length (now given) ≡ placeSize ⌝ }
 {
     let r = storage::operation::read_medium(t, m, places);
-    match op {
-        Operation::Prepare(session, to) => {
-            storage::operation::prepare(t, m, r, session, to, given, f);
-            true
-        }
-        Operation::Append => append(m, r, src, given, f),
-        Operation::Truncate(to) => {
-            storage::operation::trim(m, r, to, given, f);
-            true
-        }
-        Operation::Note(low, local) => {
-            storage::operation::note(t, m, r, low, local, given, f);
-            true
-        }
-        Operation::Unfit => false,
-    }
-}
-
-// A full log takes no record.
-fn append(m: &mut [u8], r: Read, src: &[u8], given: &[u8], f: Fate) -> bool
-    requires { ⌜ AsRead r (now m) ⌝ }
-    requires { ⌜ length (now src) ≡ placeSize ⌝ }
-    requires { ⌜ length (now given) ≡ placeSize ⌝ }
-{
-    if r.places <= r.mark {
+    let mut src = [0u8; PLACE];
+    let Asked::Is(op) = operation::read(line, c, r.mark as u64, &mut src) else {
+        return false;
+    };
+    if !operation::has_place(op, places as u64) {
         return false;
     }
-    storage::operation::append(m, r, src, given, f);
+    storage::operation::perform(t, m, r, op, &src, given, f);
     true
 }

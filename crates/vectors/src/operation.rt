@@ -1,5 +1,9 @@
 // What a replica is asked to do, as a line says it.
+ghost use mathlib.Core.Path.{_≡_};
+ghost use mathlib.Core.Bool.{true};
 ghost use Prim.Native.Nat.{_≤_};
+ghost use Rattle.storage.specs.Operations.{HasPlace};
+use storage::operation::Operation;
 use storage::operation::Target;
 use stored::hex;
 use text::line;
@@ -15,12 +19,9 @@ pub enum Command {
     Note,
 }
 
-// An operation with its numbers; the bytes of an append lie beside it.
-pub enum Operation {
-    Prepare(u64, Target),
-    Append,
-    Truncate(u64),
-    Note(u64, u64),
+// A replica's operation, if the fields have one.
+pub enum Asked {
+    Is(Operation),
     Unfit,
 }
 
@@ -37,30 +38,30 @@ pub fn fate_field(c: Command) -> usize
     }
 }
 
-// The operation that the fields before the fate say.
-pub fn read(line: &[u8], c: Command, src: &mut [u8]) -> Operation {
+// The operation that the fields before the fate say, on a log with this mark; the bytes of an append go to src.
+pub fn read(line: &[u8], c: Command, mark: u64, src: &mut [u8]) -> Asked {
     match c {
-        Command::Medium => Operation::Unfit,
+        Command::Medium => Asked::Is(Operation::Read),
         Command::Prepare => prepare(line),
-        Command::Append => append(line, src),
+        Command::Append => append(line, mark, src),
         Command::Truncate => truncate(line),
         Command::Note => note(line),
     }
 }
 
 // prepare: session, closing part.
-fn prepare(line: &[u8]) -> Operation {
+fn prepare(line: &[u8]) -> Asked {
     let Number::Is(session) = number::decimal(line::field(line, 2)) else {
-        return Operation::Unfit;
+        return Asked::Unfit;
     };
     let Number::Is(n) = number::decimal(line::field(line, 3)) else {
-        return Operation::Unfit;
+        return Asked::Unfit;
     };
-    Operation::Prepare(session, closing(n))
+    Asked::Is(Operation::Prepare(session, target(n)))
 }
 
-// 0 if unresolved, else the closing mark + 1.
-fn closing(n: u64) -> Target {
+// 0 if the whole log stays, else the closing mark + 1.
+fn target(n: u64) -> Target {
     if n == 0 {
         return Target::Whole;
     }
@@ -68,28 +69,41 @@ fn closing(n: u64) -> Target {
 }
 
 // append: 64 BYTES.
-fn append(line: &[u8], src: &mut [u8]) -> Operation {
+fn append(line: &[u8], mark: u64, src: &mut [u8]) -> Asked {
     if !hex::read(line::field(line, 2), src) {
-        return Operation::Unfit;
+        return Asked::Unfit;
     }
-    Operation::Append
+    Asked::Is(Operation::Append(mark))
 }
 
 // truncate: mark.
-fn truncate(line: &[u8]) -> Operation {
+fn truncate(line: &[u8]) -> Asked {
     let Number::Is(to) = number::decimal(line::field(line, 2)) else {
-        return Operation::Unfit;
+        return Asked::Unfit;
     };
-    Operation::Truncate(to)
+    Asked::Is(Operation::Trim(to))
 }
 
 // note: low-water mark, local low-water mark.
-fn note(line: &[u8]) -> Operation {
+fn note(line: &[u8]) -> Asked {
     let Number::Is(low) = number::decimal(line::field(line, 2)) else {
-        return Operation::Unfit;
+        return Asked::Unfit;
     };
     let Number::Is(local) = number::decimal(line::field(line, 3)) else {
-        return Operation::Unfit;
+        return Asked::Unfit;
     };
-    Operation::Note(low, local)
+    Asked::Is(Operation::Note(low, local))
+}
+
+// A full log takes no record.
+pub fn has_place(op: Operation, places: u64) -> bool
+    ensures { λ r. ⌜ (r ≡ true → HasPlace places op) ⌝ }
+{
+    match op {
+        Operation::Append(n) => n < places,
+        Operation::Prepare(_, _) => true,
+        Operation::Trim(_) => true,
+        Operation::Note(_, _) => true,
+        Operation::Read => true,
+    }
 }

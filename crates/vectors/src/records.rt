@@ -8,8 +8,8 @@ ghost use Rattle.storage.specs.Places.{sizeOf};
 use crc32::Tables;
 use storage::place;
 use storage::place::Fields;
+use storage::sizes::DATA_AT;
 use storage::sizes::DATA_LIMIT;
-use storage::sizes::HEADER;
 use storage::sizes::PLACE;
 use storage::sizes::SLOT;
 use storage::slot;
@@ -89,8 +89,8 @@ fn content(b: &[u8])
     let n = place::data_length(b);
     print::next(n as u64);
     print::text(b"\t");
-    let e = HEADER + n as usize;
-    print::digits(&b[HEADER..e]);
+    let e = DATA_AT + n as usize;
+    print::digits(&b[DATA_AT..e]);
 }
 
 // slot, BYTES.

@@ -2,10 +2,13 @@ use mathlib.Core.Path.{_≡_, refl, sym, ap, ap₂, _∙_}
 use mathlib.Core.List.{List, [], _∷_, _++_}
 use Prim.Native.Nat.{ℕ, _+_, _-_, _≤_, zero-le}
 use lib.ListN.{length, take, drop, replicate}
-use Rattle.octets.specs.Octets.{writeAt, fieldsOf}
-use Rattle.storage.specs.Places.{lowerNumbers, upperNumbers, padded, recordHead, recordBytes}
+use Rattle.octets.specs.Octets.{writeAt, fieldsOf, offsetOf}
+use Rattle.storage.specs.Layout.{dataOffset, checkOffset, padded, headOf}
+use Rattle.storage.specs.Sizes.{placeLayout}
+use Rattle.storage.specs.Places.{placeNumbers, recordBytes}
 use Rattle.crc32.proofs.Sealed.{seal-all}
-use Rattle.storage.proofs.RecordWritten.{head-written, length-head}
+use Rattle.storage.proofs.Layouts.{length-head}
+use Rattle.storage.proofs.RecordWritten.{head-written}
 use native.Mathlib.Omega.{arith}
 use borrow.Author.Needs.{needs}
 use Rattle.storage.proofs.place.encode.Statement.{statement}
@@ -35,10 +38,10 @@ returns c =
     let l₁ = c .before .before .before .before .before .before .before .before .before .before .before .before .before .before .lower .last .0 in
     let l₂ = c .before .before .before .before .before .before .before .before .before .before .upper .last .0 in
     let l₃ = c .before .before .before .before .before .before .fill .last .0 in
-    let e₁ : l₁ ≡ writeAt 0 (fieldsOf (lowerNumbers f)) m = c .before .before .before .before .before .before .before .before .before .before .before .before .before .before .lower .ensures in
-    let e₂ : l₂ ≡ writeAt 20 (fieldsOf (upperNumbers f (length d))) l₁ = c .before .before .before .before .before .before .before .before .before .before .upper .ensures in
-    let e₃ : l₃ ≡ writeAt 32 (padded d) l₂ = c .before .before .before .before .before .before .fill .ensures in
-    seal-all 60 (recordHead f d) m l₃ _ (length-head f d (c .before .before .before .before .before .before .before .before .before .before .before .before .before .before .before .before .before .before .pre .1 .1)) (sym (c .before .before .before .before .before .before .before .before .before .before .before .before .before .before .before .before .before .before .pre .1 .0)) (head-written f d m l₁ l₂ l₃ e₁ e₂ e₃) (c .before .before .seal .ensures)
+    let e₁ : l₁ ≡ writeAt 0 (fieldsOf (take 4 (placeNumbers f 0))) m = c .before .before .before .before .before .before .before .before .before .before .before .before .before .before .lower .ensures in
+    let e₂ : l₂ ≡ writeAt (offsetOf (placeLayout .widths) 4) (fieldsOf (drop 4 (placeNumbers f (length d)))) l₁ = c .before .before .before .before .before .before .before .before .before .before .upper .ensures in
+    let e₃ : l₃ ≡ writeAt (dataOffset placeLayout) (padded placeLayout d) l₂ = c .before .before .before .before .before .before .fill .ensures in
+    seal-all (checkOffset placeLayout) (headOf placeLayout (placeNumbers f (length d)) d) m l₃ _ (length-head placeLayout (placeNumbers f (length d)) d refl (c .before .before .before .before .before .before .before .before .before .before .before .before .before .before .before .before .before .before .pre .1 .1)) (sym (c .before .before .before .before .before .before .before .before .before .before .before .before .before .before .before .before .before .before .pre .1 .0)) (head-written f d m l₁ l₂ l₃ e₁ e₂ e₃) (c .before .before .seal .ensures)
 
 pub encode-spec : {M : Type 1} → statement M
 encode-spec =

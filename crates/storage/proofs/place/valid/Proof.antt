@@ -31,7 +31,7 @@ returns-2 c =
     let n = c .before .before .before .before .before .args .n in
     let s = c .before .before .before .before .before .args .s .now in
     let l : length s ≡ 64 = c .before .before .before .if1 .left in
-    bad-id n s l (λ i. c .if2 .taken (c .before .get-be .ensures .0 ∙ i))
+    bad-id n s (λ i. c .if2 .taken (c .before .get-be .ensures .0 ∙ i))
 
 sub-get-be-2 : tie.Need-sub-get-be-2
 sub-get-be-2 c = search needs
@@ -53,7 +53,7 @@ returns-3 c =
     let l : length s ≡ 64 = c .before .before .before .before .before .before .if1 .left in
     let i : idOf s ≡ n = sym (c .before .before .before .before .get-be .ensures .0) ∙ c .before .before .before .if2 .left in
     let e : c .before .get-be2 .result ≡ sizeOf s = c .before .get-be2 .ensures .0 in
-    bad-size n s l i (omega (arith, e, c .if3 .taken))
+    bad-size n s l (omega (arith, e, c .if3 .taken))
 
 add-k : tie.Need-add-k
 add-k c = search needs
@@ -79,7 +79,7 @@ returns-4 c =
     let i : idOf s ≡ n = sym (c .before .before .before .before .before .before .before .get-be .ensures .0) ∙ c .before .before .before .before .before .before .if2 .left in
     let e : c .before .before .before .before .get-be2 .result ≡ sizeOf s = c .before .before .before .before .get-be2 .ensures .0 in
     let z : sizeOf s ≤ 28 = omega (arith, e, c .before .before .before .if3 .left) in
-    bad-tail n s l i z (sym (c .before .all-zero .ensures ∙ ap allZero (tail-is (c .before .before .before .before .get-be2 .result) s e)) ∙ not-true _ (c .if4 .taken))
+    bad-tail n s l z (sym (c .before .all-zero .ensures ∙ ap allZero (tail-is (c .before .before .before .before .get-be2 .result) s e)) ∙ not-true _ (c .if4 .taken))
 
 check-requires : tie.Need-check-requires
 check-requires c κs = search needs
@@ -93,7 +93,7 @@ returns-5 c =
     let i : idOf s ≡ n = sym (c .before .before .before .before .before .before .before .before .get-be .ensures .0) ∙ c .before .before .before .before .before .before .before .if2 .left in
     let e : c .before .before .before .before .before .get-be2 .result ≡ sizeOf s = c .before .before .before .before .before .get-be2 .ensures .0 in
     let z : sizeOf s ≤ 28 = omega (arith, e, c .before .before .before .before .if3 .left) in
-    c .check .ensures ∙ by-check n s l i z (sym (c .before .before .all-zero .ensures ∙ ap allZero (tail-is (c .before .before .before .before .before .get-be2 .result) s e)) ∙ not-false _ (c .before .if4 .left))
+    c .check .ensures ∙ by-check n s l z i (sym (c .before .before .all-zero .ensures ∙ ap allZero (tail-is (c .before .before .before .before .before .get-be2 .result) s e)) ∙ not-false _ (c .before .if4 .left))
 
 pub valid-spec : {M : Type 1} → statement M
 valid-spec =

@@ -1,17 +1,26 @@
-use mathlib.Core.Path.{_≡_, refl, sym, ap, ap₂, _∙_}
-use mathlib.Core.Bool.{true, false}
-use mathlib.Core.List.{List, [], _∷_, _++_}
-use Prim.Native.Nat.{ℕ, _≤_, zero-le}
-use lib.ListN.{length}
-use borrow.Author.Tests.{eq-eqb, ne-eqb, lt-ltb, le-ltb, not-true, not-false}
-use Rattle.octets.specs.Octets.{part, allZero, writeAt, fieldsOf}
-use Rattle.storage.specs.Slots.{slotNumbers, validSlot, slotOf, slotBytes, newer, currentOf, heldOf, otherAt}
+use mathlib.Core.Path.{_≡_, refl, sym, ap, _∙_}
+use mathlib.Core.List.{List, [], _∷_}
+use Prim.Native.Nat.{ℕ, _+_, zero-le}
+use Rattle.octets.specs.Octets.{writeAt, beBytes, fieldsOf}
+use Rattle.octets.proofs.Laws.{write-write}
 use Rattle.octets.proofs.Numbers.{first-field, next-field, length-fields}
 use Rattle.crc32.proofs.Sealed.{seal-all}
-use native.Mathlib.Omega.{arith}
+use Rattle.storage.specs.declared.slot.Slot.{Slot}
+use Rattle.storage.specs.Layout.{dataOffset, checkOffset, headOf}
+use Rattle.storage.specs.Sizes.{slotLayout}
+use Rattle.storage.specs.Slots.{slotNumbers, slotBytes}
+use Rattle.storage.proofs.Layouts.{length-head}
 use borrow.Author.Needs.{needs}
 use Rattle.storage.proofs.slot.encode.Statement.{statement}
 use Rattle.storage.proofs.slot.encode.Tie as tie
+
+-- the zeros behind the numbers are written as one more number
+zeros-behind : (x : Slot) (m l l′ : List ℕ) → l ≡ writeAt 0 (fieldsOf (slotNumbers x)) m → l′ ≡ writeAt (dataOffset slotLayout) (beBytes 4 0) l
+    → l′ ≡ writeAt 0 (headOf slotLayout (slotNumbers x) []) m
+unfolding beBytes
+zeros-behind x m l l′ e e′ =
+    e′ ∙ ap (writeAt (dataOffset slotLayout) (beBytes 4 0)) e
+    ∙ write-write 0 (dataOffset slotLayout) (fieldsOf (slotNumbers x)) (beBytes 4 0) m zero-le (ap (λ (n : ℕ). 0 + n) (length-fields (slotNumbers x)))
 
 put-be-requires : tie.Need-put-be-requires
 put-be-requires c κs = search needs
@@ -39,8 +48,8 @@ returns c =
     let e₁ = first-field 0 8 (x .promise) m _ (c .before .before .before .before .before .before .before .before .before .before .before .before .before .before .before .before .before .before .put-be .ensures) in
     let e₂ = next-field ((8, x .promise) ∷ []) 0 8 (x .low) m _ _ zero-le e₁ (c .before .before .before .before .before .before .before .before .before .before .before .before .before .before .put-be2 .ensures) in
     let e₃ = next-field ((8, x .promise) ∷ (8, x .low) ∷ []) 0 8 (x .local) m _ _ zero-le e₂ (c .before .before .before .before .before .before .before .before .before .before .put-be3 .ensures) in
-    let e₄ = next-field ((8, x .promise) ∷ (8, x .low) ∷ (8, x .local) ∷ []) 0 4 0 m _ _ zero-le e₃ (c .before .before .before .before .before .before .put-be4 .ensures) in
-    seal-all 28 (fieldsOf (slotNumbers x)) m _ _ (length-fields (slotNumbers x)) (sym (c .before .before .before .before .before .before .before .before .before .before .before .before .before .before .before .before .before .before .before .before .before .pre .1)) e₄ (c .before .before .seal .ensures)
+    let e₄ = zeros-behind x m _ _ e₃ (c .before .before .before .before .before .before .put-be4 .ensures) in
+    seal-all (checkOffset slotLayout) (headOf slotLayout (slotNumbers x) []) m _ _ (length-head slotLayout (slotNumbers x) [] refl zero-le) (sym (c .before .before .before .before .before .before .before .before .before .before .before .before .before .before .before .before .before .before .before .before .before .pre .1)) e₄ (c .before .before .seal .ensures)
 
 pub encode-spec : {M : Type 1} → statement M
 encode-spec =

@@ -1,11 +1,11 @@
-use mathlib.Core.Path.{_≡_, refl, sym, ap, ap₂, _∙_}
+use mathlib.Core.Path.{_≡_, sym, _∙_}
 use mathlib.Core.Bool.{true, false}
-use mathlib.Core.List.{List, [], _∷_, _++_}
-use Prim.Native.Nat.{ℕ, _≤_, zero-le}
-use lib.ListN.{length}
-use borrow.Author.Tests.{eq-eqb, ne-eqb, lt-ltb, le-ltb, not-true, not-false}
-use Rattle.octets.specs.Octets.{part, allZero, writeAt, fieldsOf}
-use Rattle.storage.specs.Slots.{slotNumbers, validSlot, slotOf, slotBytes, newer, currentOf, heldOf, otherAt}
+use Prim.Native.Nat.{zero-le}
+use borrow.Author.Tests.{not-true, not-false}
+use Rattle.octets.specs.Octets.{part, allZero}
+use Rattle.storage.specs.Sizes.{slotLayout}
+use Rattle.storage.specs.Slots.{validSlot}
+use Rattle.storage.proofs.Layouts.{bad-length, bad-tail, by-check}
 use native.Mathlib.Omega.{arith}
 use borrow.Author.Needs.{needs}
 use Rattle.storage.proofs.slot.valid.Statement.{statement}
@@ -13,7 +13,7 @@ use Rattle.storage.proofs.slot.valid.Tie as tie
 
 returns : tie.Need-returns
 unfolding validSlot
-returns c = rw (ne-eqb _ 32 (c .if1 .taken))
+returns c = sym (bad-length slotLayout 0 (c .before .before .args .s .now) (c .if1 .taken))
 
 sub-all-zero : tie.Need-sub-all-zero
 sub-all-zero c = search needs
@@ -32,7 +32,7 @@ unfolding validSlot
 returns-2 c =
     let s = c .before .before .before .before .before .args .s .now in
     let z : allZero (part 24 4 s) ≡ false = sym (c .before .all-zero .ensures) ∙ not-true _ (c .if2 .taken) in
-    rw (eq-eqb (length s) 32 (c .before .before .before .if1 .left), z)
+    sym (bad-tail slotLayout 0 s (c .before .before .before .if1 .left) zero-le z)
 
 check-requires : tie.Need-check-requires
 check-requires c κs = search needs
@@ -42,7 +42,7 @@ unfolding validSlot
 returns-3 c =
     let s = c .before .before .before .before .before .before .args .s .now in
     let z : allZero (part 24 4 s) ≡ true = sym (c .before .before .all-zero .ensures) ∙ not-false _ (c .before .if2 .left) in
-    rw (eq-eqb (length s) 32 (c .before .before .before .before .if1 .left), z) (c .check .ensures)
+    c .check .ensures ∙ sym (by-check slotLayout 0 s (c .before .before .before .before .if1 .left) zero-le z)
 
 pub valid-spec : {M : Type 1} → statement M
 valid-spec =

@@ -1,20 +1,14 @@
--- `media::change`: the medium and the two places keep their sizes.
+-- `media::change`: the medium and the given bytes keep their sizes.
 -- Assumes nothing.
 use borrow.Author.Needs.{needs}
 use Rattle.vectors.proofs.media.change.Statement.{statement}
 use Rattle.vectors.proofs.media.change.Tie as tie
 
-slice-aggregate-read : tie.Need-slice-aggregate-read
-slice-aggregate-read c = search needs
-
-read-requires : tie.Need-read-requires
-read-requires c κs = search needs
-
 fate-field-requires : tie.Need-fate-field-requires
 fate-field-requires c κs = search needs
 
-read-requires-2 : tie.Need-read-requires-2
-read-requires-2 c κs = search needs
+read-requires : tie.Need-read-requires
+read-requires c κs = search needs
 
 enum-known-f : tie.Need-enum-known-f
 enum-known-f c = search needs
@@ -43,11 +37,8 @@ returns-2 c = search needs
 slice-aggregate-perform : tie.Need-slice-aggregate-perform
 slice-aggregate-perform c = search needs
 
-slice-aggregate-perform-2 : tie.Need-slice-aggregate-perform-2
-slice-aggregate-perform-2 c = search needs
-
 perform-requires : tie.Need-perform-requires
-perform-requires c κs = (search needs, (search needs, (search needs, search needs)))
+perform-requires c κs = (search needs, (search needs, search needs))
 
 same-length-2 : tie.Need-same-length-2
 same-length-2 c = search needs
@@ -59,10 +50,8 @@ pub change-spec : {M : Type 1} → statement M
 change-spec =
     tie.close
     (tie.spec
-    slice-aggregate-read
-    read-requires
     fate-field-requires
-    read-requires-2
+    read-requires
     enum-known-f
     enum-told
     returns
@@ -72,7 +61,6 @@ change-spec =
     same-length
     returns-2
     slice-aggregate-perform
-    slice-aggregate-perform-2
     perform-requires
     same-length-2
     returns-3)

@@ -1,21 +1,16 @@
--- The tables: what their entries are, and that a list whose entries follow one from another is the tables.
+-- The tables: what their entries are, and that rows made by doubling are the tables.
 -- Assumes nothing.
 use mathlib.Core.Path.{_≡_, refl, sym, ap, ap₂, _∙_}
-use mathlib.Core.List.{List, _++_, map}
-use Prim.Native.Nat.{ℕ, zero, suc, _+_, _*_, _/_, _%_, _<_}
-use native.Mathlib.Nat.{add-zero, zero-add, add-suc, suc-add, le-of-suc-le-suc, not-suc-le-zero, mod-lt}
+use mathlib.Core.List.{List, [], _∷_, _++_, map}
+use Prim.Native.Nat.{ℕ, zero, suc, _+_, _*_, _/_, _%_, _^_, _<_, _≤_}
+use native.Mathlib.Nat.{add-zero, zero-add, add-suc, suc-add, one-mul, zero-lt-suc, le-of-suc-le-suc, not-suc-le-zero, mod-lt, pow-suc}
 use native.Mathlib.Omega.{arith}
-use lib.Dec.{lit<}
-use lib.Bits.{bitXor}
-use lib.ListN.{length, getD, take, length-append, length-map, length-take, List·getD-append, List·getD-map}
-use lib.Seq.{ext-getD, getD-append-add, getD-take}
-use Rattle.crc32.specs.Crc32.{bitStep, bitSteps}
+use lib.Dec.{lit<, lit≤}
+use lib.Bits.{bitXor, xor-shifted}
+use lib.ListN.{getD}
+use Rattle.crc32.specs.Crc32.{bitSteps}
 use Rattle.crc32.specs.Tables.{tabulate, entryOf, tablesOf}
-use Rattle.crc32.proofs.Steps.{steps-add, steps-split}
-
-length-tabulate : (f : ℕ → ℕ) (i n : ℕ) → length (tabulate f i n) ≡ n
-length-tabulate f i zero = refl
-length-tabulate f i (suc n) = ap suc (length-tabulate f (suc i) n)
+use Rattle.crc32.proofs.Steps.{steps-linear, steps-split}
 
 tabulated-from : (f : ℕ → ℕ) (i n k : ℕ) → k < n → getD (tabulate f i n) k 0 ≡ f (i + k)
 tabulated-from f i zero k h = absurd (not-suc-le-zero h)
@@ -38,53 +33,77 @@ entry-at t k b e hk hb =
 abbrev pub byteStep : List ℕ → ℕ → ℕ
 byteStep t x = bitXor (x / 256) (getD t (x % 256) 0)
 
-stepped : (t : List ℕ) → ((b : ℕ) → b < 256 → getD t b 0 ≡ bitSteps 8 b) → (x : ℕ) → byteStep t x ≡ bitSteps 8 x
-stepped t e x = ap (bitXor (x / 256)) (e (x % 256) (mod-lt x (lit< tt))) ∙ sym (steps-split 8 x)
-
 pub byte-step : (t : List ℕ) (x : ℕ) → t ≡ tablesOf → byteStep t x ≡ bitSteps 8 x
-byte-step t x e = stepped t (λ b h. ap (λ (i : ℕ). getD t i 0) (sym (zero-add b)) ∙ entry-at t 0 b e (lit< tt) h) x
+byte-step t x e =
+    let b = x % 256 in
+    ap (bitXor (x / 256)) (ap (λ (i : ℕ). getD t i 0) (sym (zero-add b)) ∙ entry-at t 0 b e (lit< tt) (mod-lt x (lit< tt)))
+    ∙ sym (steps-split 8 x)
 
--- a list whose first 256 entries have had eight steps, and each later one eight more than the entry 256 before it
-module _ (l : List ℕ) (e : l ≡ tabulate (bitSteps 8) 0 256 ++ map (byteStep l) (take 1792 l)) where
-  length-rows : length l ≡ 2048
-  length-rows =
-      let n : length l ≡ 256 + length (take 1792 l) = ap length e ∙ length-append (tabulate (bitSteps 8) 0 256) (map (byteStep l) (take 1792 l)) ∙ ap₂ (λ (a b : ℕ). a + b) (length-tabulate (bitSteps 8) 0 256) (length-map (take 1792 l) (byteStep l)) in
-      omega (arith, length-take 1792 l)
+-- ---- the constant: bit steps are linear, so a row of 2 ^ m entries is half of it, and that half xored with one entry more
 
-  row-first : (b : ℕ) → b < 256 → getD l b 0 ≡ bitSteps 8 b
-  row-first b h =
-      ap (λ (m : List ℕ). getD m b 0) e
-      ∙ List·getD-append (tabulate (bitSteps 8) 0 256) (map (byteStep l) (take 1792 l)) 0 b (rw (length-tabulate (bitSteps 8) 0 256) h)
-      ∙ tabulated (bitSteps 8) 256 b h
+tabulate-append : (f : ℕ → ℕ) (i a b : ℕ) → tabulate f i (a + b) ≡ tabulate f i a ++ tabulate f (i + a) b
+tabulate-append f i zero b = rw (zero-add, add-zero)
+tabulate-append f i (suc a) b =
+    let n : suc i + a ≡ i + suc a = omega arith in
+    ap (tabulate f i) (suc-add a b) ∙ ap (λ (l : List ℕ). f i ∷ l) (tabulate-append f (suc i) a b)
+    ∙ ap (λ (j : ℕ). f i ∷ (tabulate f (suc i) a ++ tabulate f j b)) n
 
-  row-next : (i : ℕ) → i < 1792 → getD l (256 + i) 0 ≡ bitSteps 8 (getD l i 0)
-  unfolding bitSteps bitStep
-  row-next i h =
-      let row = tabulate (bitSteps 8) 0 256 in
-      let rest = map (byteStep l) (take 1792 l) in
-      let z : 0 ≡ byteStep l 0 = sym (row-first 0 (lit< tt)) in
-      ap (λ (m : List ℕ). getD m (256 + i) 0) e
-      ∙ ap (λ (n : ℕ). getD (row ++ rest) (n + i) 0) (sym (length-tabulate (bitSteps 8) 0 256))
-      ∙ getD-append-add row rest i 0
-      ∙ ap (getD rest i) z
-      ∙ List·getD-map (byteStep l) (take 1792 l) i 0
-      ∙ ap (byteStep l) (getD-take 1792 l i 0 h)
-      ∙ stepped l row-first (getD l i 0)
+same : (f h : ℕ → ℕ) (i j n : ℕ) → ((k : ℕ) → k < n → f (i + k) ≡ h (j + k)) → tabulate f i n ≡ tabulate h j n
+same f h i j zero e = refl
+same f h i j (suc n) e =
+    let a : i + 0 ≡ i = add-zero i in
+    let b : j + 0 ≡ j = add-zero j in
+    ap₂ (λ (x : ℕ) (l : List ℕ). x ∷ l) (rw (a, b) at (e 0 (zero-lt-suc n)))
+    (same f h (suc i) (suc j) n (λ k p.
+    let c : suc i + k ≡ i + suc k = omega arith in
+    let d : suc j + k ≡ j + suc k = omega arith in
+    rw (c, d) (e (suc k) (omega arith))))
 
-  row-at : (k b : ℕ) → k < 8 → b < 256 → getD l (256 * k + b) 0 ≡ bitSteps (8 * (k + 1)) b
-  row-at zero b hk hb = ap (λ (i : ℕ). getD l i 0) (zero-add b) ∙ row-first b hb
-  row-at (suc k) b hk hb =
-      let i : 256 * suc k + b ≡ 256 + (256 * k + b) = omega arith in
-      let n : 8 * (k + 1) + 8 ≡ 8 * (suc k + 1) = omega arith in
-      ap (λ (j : ℕ). getD l j 0) i ∙ row-next (256 * k + b) (omega arith)
-      ∙ ap (bitSteps 8) (row-at k b (omega arith) hb)
-      ∙ sym (steps-add (8 * (k + 1)) 8 b) ∙ ap (λ (j : ℕ). bitSteps j b) n
+map-tabulate : (g f : ℕ → ℕ) (i n : ℕ) → map g (tabulate f i n) ≡ tabulate (λ (x : ℕ). g (f x)) i n
+map-tabulate g f i zero = refl
+map-tabulate g f i (suc n) = ap (λ (l : List ℕ). g (f i) ∷ l) (map-tabulate g f (suc i) n)
 
-  pub rows : l ≡ tablesOf
-  unfolding tablesOf entryOf
-  rows =
-      ext-getD 0 l (tabulate entryOf 0 2048) (length-rows ∙ sym (length-tabulate entryOf 0 2048))
-      (λ i h.
-      let j : 256 * (i / 256) + i % 256 ≡ i = omega arith in
-      let m : i < 2048 = omega (arith, length-rows) in
-      ap (λ (n : ℕ). getD l n 0) (sym j) ∙ row-at (i / 256) (i % 256) (omega arith) (omega arith) ∙ sym (tabulated entryOf 2048 i m))
+unfoldable pub doubled : (ℕ → ℕ) → ℕ → List ℕ
+doubled f zero = f 0 ∷ []
+doubled f (suc m) = doubled f m ++ map (bitXor (f (2 ^ m))) (doubled f m)
+
+doubled-all : (f : ℕ → ℕ) → ((a b : ℕ) → f (bitXor a b) ≡ bitXor (f a) (f b)) → (m : ℕ) → doubled f m ≡ tabulate f 0 (2 ^ m)
+unfolding doubled
+doubled-all f linear zero = refl
+doubled-all f linear (suc m) =
+    let p = 2 ^ m in
+    let n : p + p ≡ 2 ^ suc m = rw pow-suc (omega arith) in
+    ap (λ (l : List ℕ). l ++ map (bitXor (f p)) l) (doubled-all f linear m)
+    ∙ ap (λ (l : List ℕ). tabulate f 0 p ++ l)
+    (map-tabulate (bitXor (f p)) f 0 p
+    ∙ same (λ (x : ℕ). bitXor (f p) (f x)) f 0 p p (λ k h.
+    rw zero-add (sym (linear p k) ∙ ap f (rw one-mul at (xor-shifted 1 m k h)))))
+    ∙ ap (λ (i : ℕ). tabulate f 0 p ++ tabulate f i p) (sym (zero-add p))
+    ∙ sym (tabulate-append f 0 p p) ∙ ap (tabulate f 0) n
+
+-- the first k tables
+unfoldable pub rowsOf : ℕ → List ℕ
+rowsOf zero = []
+rowsOf (suc k) = rowsOf k ++ doubled (bitSteps (8 * (k + 1))) 8
+
+row : (k n : ℕ) → n ≤ 256 → tabulate (bitSteps (8 * (k + 1))) 0 n ≡ tabulate entryOf (256 * k) n
+unfolding entryOf
+row k n h =
+    same (bitSteps (8 * (k + 1))) entryOf 0 (256 * k) n (λ b p.
+    let q : (256 * k + b) / 256 + 1 ≡ k + 1 = omega arith in
+    let r : (256 * k + b) % 256 ≡ 0 + b = omega arith in
+    sym (ap₂ (λ (x y : ℕ). bitSteps (8 * x) y) q r))
+
+rows-all : (k : ℕ) → rowsOf k ≡ tabulate entryOf 0 (256 * k)
+unfolding rowsOf
+rows-all zero = refl
+rows-all (suc k) =
+    let n : 256 * k + 256 ≡ 256 * suc k = omega arith in
+    ap₂ (λ (a b : List ℕ). a ++ b) (rows-all k)
+    (doubled-all (bitSteps (8 * (k + 1))) (steps-linear (8 * (k + 1))) 8 ∙ row k 256 (lit≤ tt))
+    ∙ ap (λ (i : ℕ). tabulate entryOf 0 (256 * k) ++ tabulate entryOf i 256) (sym (zero-add (256 * k)))
+    ∙ sym (tabulate-append entryOf 0 (256 * k) 256) ∙ ap (tabulate entryOf 0) n
+
+pub rows : rowsOf 8 ≡ tablesOf
+unfolding tablesOf
+rows = rows-all 8

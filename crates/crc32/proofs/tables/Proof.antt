@@ -1,14 +1,14 @@
--- The constant is the tables: antt computes each entry from the one 256 before it.
+-- The constant is the tables: antt computes each row by doubling.
 -- Assumes nothing.
 use mathlib.Core.Path.{refl}
 use Rattle.crc32.specs.Crc32.{bitStep, bitSteps}
-use Rattle.crc32.proofs.Rows.{rows}
+use Rattle.crc32.proofs.Rows.{doubled, rowsOf, rows}
 use Rattle.crc32.proofs.tables.Statement.{statement}
 use Rattle.crc32.proofs.tables.Tie as tie
 
 returns : tie.Need-returns
-unfolding bitSteps bitStep
-returns c = rows _ refl
+unfolding rowsOf doubled bitSteps bitStep
+returns c = rows
 
 pub tables-spec : {M : Type 1} → statement M
 tables-spec = tie.close (tie.spec returns)

@@ -1,0 +1,4 @@
+pub mod Outline
+pub mod States
+pub mod Parts
+pub mod Example

@@ -21,15 +21,15 @@ use Rattle.cluster.specs.Replies.{Reply}
 use Rattle.guarantee.specs.History.{Element, Logged, log, History, setAt, told, heard, beginning, along}
 use Rattle.guarantee.specs.Guarantee.{InRange, Fits, CoveredAll, Share, Kept}
 use Rattle.guarantee.proofs.Guarantee.{guarantee}
-use Rattle.guarantee_example.specs.Example.{shape, plain, request, issuing, calls-1, calls-2, calls-3, calls-4, calls, replies-1, replies-2, replies-3, replies-4, first, second, third}
+use Rattle.guarantee_example.specs.Example.{shape, plain, request, issuing, calls-1, calls-2, calls-3, calls-4, calls-5, calls, replies-1, replies-2, replies-3, replies-4, replies-5, first, second, third}
 use Rattle.guarantee_example.proofs.Outline.{Line, outline, outline-then, retold, retold-is, ReadAll, FitEach, covers}
-use Rattle.guarantee_example.proofs.States.{state-1, state-2, state-3}
-use Rattle.guarantee_example.proofs.Parts.{lines, opened-at, part-1, part-2, part-3, part-4}
+use Rattle.guarantee_example.proofs.States.{state-1, state-2, state-3, state-4}
+use Rattle.guarantee_example.proofs.Parts.{lines, opened-at, part-1, part-2, part-3, part-4, part-5}
 
 -- ================ the whole list
 
 abbrev expected : List Line
-expected = opened-at 4 0 1 (lines replies-1) ++ (lines replies-2 ++ (lines replies-3 ++ opened-at 1 3 2 (lines replies-4)))
+expected = opened-at 4 0 1 (lines replies-1) ++ (lines replies-2 ++ (lines replies-3 ++ (lines replies-4 ++ opened-at 1 3 2 (lines replies-5))))
 
 then-lines : (x y : State) (es fs : List Element) (ls ms : List Line) → outline shape x es ≡ (ls, y) → outline shape y fs .0 ≡ ms
     → outline shape x (es ++ fs) .0 ≡ ls ++ ms
@@ -40,14 +40,15 @@ then-lines x y es fs ls ms p q =
 
 all-lines : outline shape (fresh shape) calls .0 ≡ expected
 all-lines =
-    then-lines (fresh shape) state-1 calls-1 (calls-2 ++ (calls-3 ++ calls-4)) _ _ part-1
-    (then-lines state-1 state-2 calls-2 (calls-3 ++ calls-4) _ _ part-2 (then-lines state-2 state-3 calls-3 calls-4 _ _ part-3 part-4))
+    then-lines (fresh shape) state-1 calls-1 (calls-2 ++ (calls-3 ++ (calls-4 ++ calls-5))) _ _ part-1
+    (then-lines state-1 state-2 calls-2 (calls-3 ++ (calls-4 ++ calls-5)) _ _ part-2
+    (then-lines state-2 state-3 calls-3 (calls-4 ++ calls-5) _ _ part-3 (then-lines state-3 state-4 calls-4 calls-5 _ _ part-4 part-5)))
 
 abbrev repliesIn : List Line → List Reply
 repliesIn [] = []
 repliesIn (l ∷ ls) = l .reply ∷ repliesIn ls
 
-pub replied : repliesIn (outline shape (fresh shape) calls .0) ≡ replies-1 ++ (replies-2 ++ (replies-3 ++ replies-4))
+pub replied : repliesIn (outline shape (fresh shape) calls .0) ≡ replies-1 ++ (replies-2 ++ (replies-3 ++ (replies-4 ++ replies-5)))
 replied = ap repliesIn all-lines
 
 -- ================ its history
@@ -117,22 +118,28 @@ fit-then [] fs a b = b
 fit-then (e ∷ es) fs a b = (a .0, fit-then es fs (a .1) b)
 
 fits-1 : FitEach calls-1
-fits-1 = (
-  take 0,
-  (prepare 0 0, (prepare 0 1, (prepare 0 2, (opens 0, (issuing-fits 0 [] _ (lit< tt, tt), (send 0 Answered, (send 1 Answered, (send 2 Answered, tt)))))))),
-)
+fits-1 = (take 0, (prepare 0 0, (prepare 0 1, (prepare 0 2, (opens 0, tt)))))
 
 fits-2 : FitEach calls-2
-fits-2 = (
+fits-2 = (issuing-fits 0 [] _ (lit< tt, tt), (send 0 Answered, (send 1 Answered, (send 2 Answered, tt))))
+
+fits-3 : FitEach calls-3
+fits-3 = (
   issuing-fits 1 _ [] tt,
   (send 0 Answered, (send 1 Answered, (send 2 (Cut 1 New), (issuing-fits 2 _ [] tt, (issuing-fits 1 _ [] tt, (send 0 Answered, tt)))))),
 )
 
-fits-3 : FitEach calls-3
-fits-3 = (take 1, (prepare 1 0, (prepare 1 2, (opens 1, tt))))
-
 fits-4 : FitEach calls-4
-fits-4 = (copy, (opens 1, (send 1 Answered, tt)))
+fits-4 = (take 1, (prepare 1 0, (prepare 1 2, (opens 1, tt))))
+
+fits-5 : FitEach calls-5
+fits-5 = (copy, (opens 1, (send 1 Answered, tt)))
+
+fits : FitEach calls
+fits =
+    fit-then calls-1 (calls-2 ++ (calls-3 ++ (calls-4 ++ calls-5))) fits-1
+    (fit-then calls-2 (calls-3 ++ (calls-4 ++ calls-5)) fits-2
+    (fit-then calls-3 (calls-4 ++ calls-5) fits-3 (fit-then calls-4 calls-5 fits-4 fits-5)))
 
 -- replica 2 is read by both opens
 read-all : ReadAll shape (fresh shape) calls expected (beginning shape .history)
@@ -203,8 +210,7 @@ covered : CoveredAll shape (beginning shape) calls
 unfolding beginning
 covered =
     covers shape calls (beginning shape)
-    (fit-then calls-1 (calls-2 ++ (calls-3 ++ calls-4)) fits-1
-    (fit-then calls-2 (calls-3 ++ calls-4) fits-2 (fit-then calls-3 calls-4 fits-3 fits-4)))
+    fits
     (subst⁻¹ (λ (ls : List Line). ReadAll shape (fresh shape) calls ls (beginning shape .history)) all-lines read-all)
 
 kept : Kept finally

@@ -1,4 +1,4 @@
--- The outlines of the four parts of the list, worked out: each from the state that the part before leaves.
+-- The outlines of the five parts of the list, worked out: each from the state that the part before leaves.
 -- Assumes nothing.
 use mathlib.Core.Path.{_≡_, refl}
 use mathlib.Core.List.{List, [], _∷_}
@@ -22,9 +22,9 @@ use Rattle.cluster.specs.Refusals.{outside, entriesFit, serverFits, markAbove, 
 use Rattle.cluster.specs.Effects.{prepareEffect, appendEffect, takeEffect, openedRegister, openedServer, openEffect, issueEffect}
 use Rattle.cluster.specs.Step.{unless, step}
 use Rattle.guarantee.specs.Registers.{changed}
-use Rattle.guarantee_example.specs.Example.{shape, calls-1, calls-2, calls-3, calls-4, replies-1, replies-2, replies-3, replies-4}
+use Rattle.guarantee_example.specs.Example.{shape, calls-1, calls-2, calls-3, calls-4, calls-5, replies-1, replies-2, replies-3, replies-4, replies-5}
 use Rattle.guarantee_example.proofs.Outline.{Line, outline}
-use Rattle.guarantee_example.proofs.States.{state-1, state-2, state-3}
+use Rattle.guarantee_example.proofs.States.{state-1, state-2, state-3, state-4}
 
 -- to unfold this is to unfold the calls down to the CRC
 unfolded : ℕ
@@ -36,7 +36,7 @@ unfolding
     prepareWrites promising closing wipes wiped after allOf cutAt leave writeAt passes passesAsPlace
     markOf logOf run placesFrom placeAt validPlace idOf sizeOf recordBytes recordHead padded
     currentOf validSlot newer slotOf storedSlot slotBytes
-    sealed checked crcOf crcFrom bitSteps bitStep allZero fieldsOf beBytes beOf beFrom state-1 state-2 state-3
+    sealed checked crcOf crcFrom bitSteps bitStep allZero fieldsOf beBytes beOf beFrom state-1 state-2 state-3 state-4
 unfolded = 0
 
 -- the lines of calls of which none opens a session
@@ -62,6 +62,10 @@ pub part-3 : outline shape state-2 calls-3 ≡ (lines replies-3, state-3)
 unfolding unfolded
 part-3 = refl
 
-pub part-4 : outline shape state-3 calls-4 .0 ≡ opened-at 1 3 2 (lines replies-4)
+pub part-4 : outline shape state-3 calls-4 ≡ (lines replies-4, state-4)
 unfolding unfolded
 part-4 = refl
+
+pub part-5 : outline shape state-4 calls-5 .0 ≡ opened-at 1 3 2 (lines replies-5)
+unfolding unfolded
+part-5 = refl

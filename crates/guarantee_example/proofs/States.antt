@@ -1,4 +1,4 @@
--- The states after each part of the list, written out to the byte: what the parts leave need not be worked out again by the part that follows.
+-- The states after each part of the list, written out, so that no part works out again what those before it leave.
 -- Assumes nothing.
 use mathlib.Core.Bool.{Bool, true, false}
 use mathlib.Core.List.{List, [], _∷_, _++_}
@@ -11,6 +11,7 @@ use Rattle.cluster.specs.declared.Register.{Register}
 use Rattle.cluster.specs.declared.Phase.the-variants.{Opening, Open}
 use Rattle.cluster.specs.declared.Server.{Server}
 use Rattle.cluster.specs.State.{State, freshEntry, idleServer, tableSize}
+use Rattle.guarantee_example.proofs.Written.{record-1, record-2, record-3, blank, slot-0, slot-1, slot-2}
 
 -- a value for each of the three replicas, in an array of seven
 abbrev three : {A : Type 0} → A → A → A → A → List A
@@ -39,67 +40,58 @@ server-0 dropped marks issued acked held =
       held = held;
     }
 
--- the records of IDs 1 to 3, the slots that promise sessions 0 to 2, a wiped place
-abbrev rec-1 : List ℕ
-rec-1 = 0 ∷ 0 ∷ 0 ∷ 0 ∷ 0 ∷ 0 ∷ 0 ∷ 1 ∷ 0 ∷ 0 ∷ 0 ∷ 0 ∷ 0 ∷ 0 ∷ 0 ∷ 0 ∷ 0 ∷ 0 ∷ 0 ∷ 0 ∷ 0 ∷ 0 ∷ 0 ∷ 0 ∷ 0 ∷ 0 ∷ 0 ∷ 9 ∷ 0 ∷ 0 ∷ 0 ∷ 1 ∷ 171 ∷ 0 ∷ 0 ∷ 0 ∷ 0 ∷ 0 ∷ 0 ∷ 0 ∷ 0 ∷ 0 ∷ 0 ∷ 0 ∷ 0 ∷ 0 ∷ 0 ∷ 0 ∷ 0 ∷ 0 ∷ 0 ∷ 0 ∷ 0 ∷ 0 ∷ 0 ∷ 0 ∷ 0 ∷ 0 ∷ 0 ∷ 0 ∷ 160 ∷ 234 ∷ 51 ∷ 168 ∷ []
-
-abbrev rec-2 : List ℕ
-rec-2 = 0 ∷ 0 ∷ 0 ∷ 0 ∷ 0 ∷ 0 ∷ 0 ∷ 2 ∷ 0 ∷ 0 ∷ 0 ∷ 0 ∷ 0 ∷ 0 ∷ 0 ∷ 0 ∷ 0 ∷ 0 ∷ 0 ∷ 0 ∷ 0 ∷ 0 ∷ 0 ∷ 0 ∷ 0 ∷ 0 ∷ 0 ∷ 9 ∷ 0 ∷ 0 ∷ 0 ∷ 0 ∷ 0 ∷ 0 ∷ 0 ∷ 0 ∷ 0 ∷ 0 ∷ 0 ∷ 0 ∷ 0 ∷ 0 ∷ 0 ∷ 0 ∷ 0 ∷ 0 ∷ 0 ∷ 0 ∷ 0 ∷ 0 ∷ 0 ∷ 0 ∷ 0 ∷ 0 ∷ 0 ∷ 0 ∷ 0 ∷ 0 ∷ 0 ∷ 0 ∷ 163 ∷ 180 ∷ 248 ∷ 160 ∷ []
-
-abbrev rec-3 : List ℕ
-rec-3 = 0 ∷ 0 ∷ 0 ∷ 0 ∷ 0 ∷ 0 ∷ 0 ∷ 3 ∷ 0 ∷ 0 ∷ 0 ∷ 0 ∷ 0 ∷ 0 ∷ 0 ∷ 0 ∷ 0 ∷ 0 ∷ 0 ∷ 0 ∷ 0 ∷ 0 ∷ 0 ∷ 0 ∷ 0 ∷ 0 ∷ 0 ∷ 9 ∷ 0 ∷ 0 ∷ 0 ∷ 0 ∷ 0 ∷ 0 ∷ 0 ∷ 0 ∷ 0 ∷ 0 ∷ 0 ∷ 0 ∷ 0 ∷ 0 ∷ 0 ∷ 0 ∷ 0 ∷ 0 ∷ 0 ∷ 0 ∷ 0 ∷ 0 ∷ 0 ∷ 0 ∷ 0 ∷ 0 ∷ 0 ∷ 0 ∷ 0 ∷ 0 ∷ 0 ∷ 0 ∷ 221 ∷ 108 ∷ 72 ∷ 225 ∷ []
-
-abbrev slot-0 : List ℕ
-slot-0 = 0 ∷ 0 ∷ 0 ∷ 0 ∷ 0 ∷ 0 ∷ 0 ∷ 0 ∷ 0 ∷ 0 ∷ 0 ∷ 0 ∷ 0 ∷ 0 ∷ 0 ∷ 0 ∷ 0 ∷ 0 ∷ 0 ∷ 0 ∷ 0 ∷ 0 ∷ 0 ∷ 0 ∷ 0 ∷ 0 ∷ 0 ∷ 0 ∷ 128 ∷ 112 ∷ 119 ∷ 233 ∷ []
-
-abbrev slot-1 : List ℕ
-slot-1 = 0 ∷ 0 ∷ 0 ∷ 0 ∷ 0 ∷ 0 ∷ 0 ∷ 1 ∷ 0 ∷ 0 ∷ 0 ∷ 0 ∷ 0 ∷ 0 ∷ 0 ∷ 0 ∷ 0 ∷ 0 ∷ 0 ∷ 0 ∷ 0 ∷ 0 ∷ 0 ∷ 0 ∷ 0 ∷ 0 ∷ 0 ∷ 0 ∷ 31 ∷ 170 ∷ 244 ∷ 119 ∷ []
-
-abbrev slot-2 : List ℕ
-slot-2 = 0 ∷ 0 ∷ 0 ∷ 0 ∷ 0 ∷ 0 ∷ 0 ∷ 2 ∷ 0 ∷ 0 ∷ 0 ∷ 0 ∷ 0 ∷ 0 ∷ 0 ∷ 0 ∷ 0 ∷ 0 ∷ 0 ∷ 0 ∷ 0 ∷ 0 ∷ 0 ∷ 0 ∷ 0 ∷ 0 ∷ 0 ∷ 0 ∷ 100 ∷ 180 ∷ 118 ∷ 148 ∷ []
-
-abbrev blank : List ℕ
-blank = 0 ∷ 0 ∷ 0 ∷ 0 ∷ 0 ∷ 0 ∷ 0 ∷ 0 ∷ 0 ∷ 0 ∷ 0 ∷ 0 ∷ 0 ∷ 0 ∷ 0 ∷ 0 ∷ 0 ∷ 0 ∷ 0 ∷ 0 ∷ 0 ∷ 0 ∷ 0 ∷ 0 ∷ 0 ∷ 0 ∷ 0 ∷ 0 ∷ 0 ∷ 0 ∷ 0 ∷ 0 ∷ 0 ∷ 0 ∷ 0 ∷ 0 ∷ 0 ∷ 0 ∷ 0 ∷ 0 ∷ 0 ∷ 0 ∷ 0 ∷ 0 ∷ 0 ∷ 0 ∷ 0 ∷ 0 ∷ 0 ∷ 0 ∷ 0 ∷ 0 ∷ 0 ∷ 0 ∷ 0 ∷ 0 ∷ 0 ∷ 0 ∷ 0 ∷ 0 ∷ 0 ∷ 0 ∷ 0 ∷ 0 ∷ []
-
 -- a medium with these slots and places
 abbrev medium : List ℕ → List ℕ → List ℕ → List ℕ → List ℕ → List ℕ
-medium p q a b c =
-    p ++ (q ++ (a ++ (b ++ c)))
+medium p q a b c = p ++ (q ++ (a ++ (b ++ c)))
 
 -- after part 1
 unfoldable pub state-1 : State
 state-1 =
-    let m = medium slot-0 slot-1 (rec-1) blank blank in
+    let m = medium slot-0 slot-1 blank blank blank in
     record {
       records =
           record {
             register = register 1;
-            servers = server-0 (replicate 7 false) (three 0 1 1 1) 1 1 (rec-1) ∷ idleServer ∷ idleServer ∷ idleServer ∷ [];
+            servers = server-0 (replicate 7 false) (replicate 7 0) 0 0 blank ∷ idleServer ∷ idleServer ∷ idleServer ∷ [];
           };
       media = m ++ (m ++ m);
       tables = replicate {A = ℕ} (4 * tableSize) 0;
     }
 
--- after part 2: the server recorded no more than 1 of replica 2, which holds 2
+-- after part 2
+unfoldable pub state-2 : State
+state-2 =
+    let m = medium slot-0 slot-1 record-1 blank blank in
+    record {
+      records =
+          record {
+            register = register 1;
+            servers = server-0 (replicate 7 false) (three 0 1 1 1) 1 1 record-1 ∷ idleServer ∷ idleServer ∷ idleServer ∷ [];
+          };
+      media = m ++ (m ++ m);
+      tables = replicate {A = ℕ} (4 * tableSize) 0;
+    }
+
+-- after part 3: the server recorded no more than 1 of replica 2, which holds 2
 abbrev last-0 : Server
-last-0 = server-0 (three false false false true) (three 0 3 2 1) 3 2 (rec-3)
+last-0 = server-0 (three false false false true) (three 0 3 2 1) 3 2 record-3
 
 abbrev locked : List ℕ
 locked = markedAll (markedAll (replicate {A = ℕ} tableSize 0) (7 ∷ []) 2) (5 ∷ 9 ∷ 9 ∷ []) 3 ++ replicate {A = ℕ} (3 * tableSize) 0
 
-unfoldable pub state-2 : State
-state-2 =
+unfoldable pub state-3 : State
+state-3 =
     record {
       records = record { register = register 1; servers = last-0 ∷ idleServer ∷ idleServer ∷ idleServer ∷ [] };
       media =
-          medium slot-0 slot-1 (rec-1) (rec-2) (rec-3)
-          ++ (medium slot-0 slot-1 (rec-1) (rec-2) blank ++ medium slot-0 slot-1 (rec-1) (rec-2) blank);
+          medium slot-0 slot-1 record-1 record-2 record-3
+          ++ (medium slot-0 slot-1 record-1 record-2 blank ++ medium slot-0 slot-1 record-1 record-2 blank);
       tables = locked;
     }
 
--- after part 3: replicas 0 and 2 promise session 2
-unfoldable pub state-3 : State
-state-3 =
+-- after part 4: replicas 0 and 2 promise session 2
+unfoldable pub state-4 : State
+state-4 =
     let v : Server =
     record {
       phase = Opening;
@@ -117,7 +109,7 @@ state-3 =
     record {
       records = record { register = register 2; servers = last-0 ∷ v ∷ idleServer ∷ idleServer ∷ [] };
       media =
-          medium slot-2 slot-1 (rec-1) (rec-2) (rec-3)
-          ++ (medium slot-0 slot-1 (rec-1) (rec-2) blank ++ medium slot-2 slot-1 (rec-1) (rec-2) blank);
+          medium slot-2 slot-1 record-1 record-2 record-3
+          ++ (medium slot-0 slot-1 record-1 record-2 blank ++ medium slot-2 slot-1 record-1 record-2 blank);
       tables = locked;
     }

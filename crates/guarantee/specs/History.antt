@@ -106,6 +106,10 @@ acknowledging H s n =
     withSession H s
     (record { opened = z .opened; start = z .start; starting = z .starting; issues = z .issues; acknowledged = max (z .acknowledged) n })
 
+-- what a copy's answer counts for
+abbrev pub onceOpened : Bool → ℕ → ℕ
+onceOpened opened n = cond opened n 0
+
 -- what stands in place n of replica i: the bytes of the place, if it is valid, and the transaction that was put there
 abbrev pub loggedAs : List ℕ → Option Transaction → Option Logged
 loggedAs bytes none = none
@@ -139,7 +143,7 @@ told h x e r H (call.Take s f) = withCurrent H s (valueOr (H .current s) (r .rep
 -- "a copy puts there the one in a's place of the same number"
 told h x e r H (call.Copy s a b f) =
     let z = H .current s in
-    acknowledging (put (h .places) x (r .state) b (H .standing a) H) z (cond (H .sessions z .opened) (valueOr 0 (r .reply)) 0)
+    acknowledging (put (h .places) x (r .state) b (H .standing a) H) z (onceOpened (H .sessions z .opened) (valueOr 0 (r .reply)))
 -- "A session is opened when an open call of it changes the register, even if the answer is lost"; its log is "what then stands": an open changes
 -- no medium, so the state before the call is as good as the one after it.
 told h x e r H (call.Open s f) =

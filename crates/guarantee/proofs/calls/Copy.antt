@@ -32,7 +32,7 @@ use Rattle.cluster.specs.State.{State, serverAt, markAt, activeAt, tableAt}
 use Rattle.cluster.specs.Replies.{ok}
 use Rattle.cluster.specs.Refusals.{answered, isOpen, refusesAt}
 use Rattle.cluster.specs.Effects.{heard, unheard, acknowledge, mediumAfter, afterMessage, replyTo, withMediumAndServer, appendEffect}
-use Rattle.guarantee.specs.History.{Session, History, setAt, valueOr, put, acknowledging, told}
+use Rattle.guarantee.specs.History.{Session, History, setAt, valueOr, onceOpened, put, acknowledging, told}
 use Rattle.guarantee.proofs.Sessions.{setAt-same, setAt-other}
 use Rattle.guarantee.proofs.Ties.{Sim, Goes, ReplicaTie, OpeningTie, OpenTie, ServersTie, SessionsTie, copyOf, rowOf, storyOf}
 use Rattle.guarantee.proofs.Frames.{replica-frame, session-frame}
@@ -54,7 +54,7 @@ module _ (h : Shape) (x : State) (H : History) (σ : protocol.State) (S : Sim h 
         start = q .start;
         starting = q .starting;
         issues = q .issues;
-        acknowledged = max (q .acknowledged) (cond (q .opened) n 0);
+        acknowledged = max (q .acknowledged) (onceOpened (q .opened) n);
       }
 
   unopened-kept : SessionsTie (setAt (H .sessions) z (after (H .sessions z))) (storyOf σ)
@@ -164,12 +164,12 @@ module _ (h : Shape) (x : State) (H : History) (σ : protocol.State) (content lo
         room = room e;
         whose = A .whose (suc (σ .mark b)) (omega arith) (more e);
       })
-      (λ n. cond (H .sessions (H .current s) .opened) n 0) (λ n. no-more (H .sessions (H .current s) .opened) n)
+      (λ n. onceOpened (H .sessions (H .current s) .opened) n) (λ n. no-more (H .sessions (H .current s) .opened) n)
     where
       row : OpenTie (h .replicas) v (tableAt s (x .tables)) (rowOf σ z)
       row = S .servers .each s (M .server) .serving p
 
-      no-more : (q : Bool) (n : ℕ) → cond q n 0 ≤ n
+      no-more : (q : Bool) (n : ℕ) → onceOpened q n ≤ n
       no-more true n = omega arith
       no-more false n = omega arith
 

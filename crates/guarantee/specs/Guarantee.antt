@@ -1,20 +1,27 @@
 -- THE GUARANTEE BETWEEN SESSIONS, condition 3, as one statement about a whole list of calls. The words stand in History.antt; the calls are those
 -- of the crate cluster, which the running calls are proved to do. proofs/Guarantee.antt has the theorem: `guarantee : Guarantee`.
 --
--- The demand, and the line below that says it:
---   "Each call of its list gets register, media, server records and        `along` (History.antt), from the fresh cluster's `beginning`
---     lock tables as the one before left them, with the cluster's R and N"
---   "It is one statement about the whole list, not one for each call."     `Guarantee`: for every list es
---   "of two, the lower number is the earlier"                              s < u, where the order of the two sessions matters
---   of any two sessions that are opened in it:                             `.opened ≡ true`, twice
---   (1) all that the earlier ever acknowledges lies at or below            `Kept.start`
---       the later one's starting mark
---   (2) both logs hold the same bytes under each ID that both              `Kept.same`: there is an x that both logs have under n. It is bytes and
---       acknowledge                                                        transaction in one: they are even of the same issue call. s = u is
---                                                                          included: a log has something under each ID that its session
---                                                                          acknowledges.
---   (3) no transaction in a log shares a lock with one that stands in      `Kept.apart`
---       that log above its client's mark and below its own ID
+-- The demand, clause by clause, and where it is said:
+--   "Each call of its list gets register, media, server records and lock tables as the one before left them, with the cluster's R and N; nobody else
+--     writes these meanwhile."                                          History.antt `along`, from the fresh cluster's `beginning`
+--   "It is one statement about the whole list, not one for each call."  `Guarantee`, below: for every list es
+--   "A declined call answers nothing."                                  History.antt `heard`
+--   "A server's calls belong to the session that its last take answered"  History.antt `current`, told of a take
+--   "of two, the lower number is the earlier."                          s < u in `Kept.start`
+--   "A session is opened when an open call of it changes the register, even if the answer is lost"  History.antt `told` of an open
+--   "its starting mark is what that call answers under the fate answered."  History.antt `startingMark`
+--   "Its log is, up to that mark, what then stands on a replica whose entry this call sets to the session (whichever such replica is read), then each
+--     record it issued under its ID."                                   History.antt `log`, `stands`; `Covered.reads`, below
+--   "It acknowledges every ID up to its starting mark and up to each answer of its sends and, once opened, of its copies."  History.antt `openedAt`,
+--                                                                       `acknowledging`, `onceOpened`
+--   "A send that makes a place valid puts there the transaction of its session's issue that answered this place's number; a copy puts there the one in
+--     a's place of the same number."                                    History.antt `put`, `told` of a send and of a copy
+--   "A transaction's locks and client mark are those of its issue call, not of another with equal bytes."  History.antt `Transaction`
+-- Of any two sessions that are opened in a list:
+--   (1) all that the earlier ever acknowledges lies at or below the later one's starting mark: `Kept.start`
+--   (2) both logs hold the same bytes under each ID that both acknowledge: `Kept.same`. There is one x that both logs have under n, bytes and
+--       transaction: they are even of the same issue call. s = u is included: a log has something under each ID that its session acknowledges.
+--   (3) no transaction in a log shares a lock with one that stands in that log above its client's mark and below its own ID: `Kept.apart`
 --
 -- Each list of calls whose arguments fit is one of these lists: proofs/Readable.antt `readable`. With (1) and (2): all that the earlier of two
 -- opened sessions ever acknowledges is in the later one's log, the same bytes (proofs/Whole.antt `whole`). Nothing in a history is written over: a

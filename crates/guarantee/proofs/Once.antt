@@ -4,9 +4,9 @@
 use mathlib.Core.Path.{_≡_, refl, sym, ap, _∙_}
 use mathlib.Core.Logic.{_⊎_, inl, inr}
 use mathlib.Core.Bool.{Bool, true, false, true≢false}
-use mathlib.Core.List.{List, [], _∷_}
+use mathlib.Core.List.{List, _∷_}
 use mathlib.Core.Option.{none}
-use Prim.Native.Nat.{ℕ, _+_, _<_}
+use Prim.Native.Nat.{ℕ, _+_}
 use native.Mathlib.Omega.{arith}
 use Rattle.fate.specs.declared.Fate.{Fate}
 use Rattle.quorum.specs.Vote.{quorum}
@@ -21,11 +21,11 @@ use Rattle.cluster.specs.declared.Request.{Request}
 use Rattle.cluster.specs.declared.Call.the-variants as call
 use Rattle.cluster.specs.State.{State, serverAt}
 use Rattle.cluster.specs.Refusals.{Input}
-use Rattle.cluster.specs.Replies.{Reply, ok}
+use Rattle.cluster.specs.Replies.{ok}
 use Rattle.cluster.specs.Effects.{Result, issueEffect}
 use Rattle.cluster.specs.Step.{step}
 use Rattle.guarantee.specs.Registers.{changed}
-use Rattle.guarantee.specs.History.{Element, Session, History, beginning, along, unopened as new-session}
+use Rattle.guarantee.specs.History.{Element, History, beginning, along, unopened as new-session}
 use Rattle.guarantee.specs.Guarantee.{InRange, CoveredAll}
 use Rattle.guarantee.proofs.Ties.{Sim}
 use Rattle.guarantee.proofs.Facts.{quorate, opening-lives, open-lives}

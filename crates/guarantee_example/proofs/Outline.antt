@@ -1,8 +1,8 @@
 -- The outline of a list of calls: what each replies and which session it opens. The states are worked out once for it; the history, and that the
 -- guarantee speaks of the list, are read off the outline, whatever the states are.
 -- Assumes nothing.
-use mathlib.Core.Path.{_≡_, refl, sym, ap, _∙_, subst⁻¹}
-use mathlib.Core.Bool.{Bool, true, false, cond, true≢false}
+use mathlib.Core.Path.{_≡_, refl, ap, _∙_, subst⁻¹}
+use mathlib.Core.Bool.{Bool, true, false, cond}
 use mathlib.Core.List.{List, [], _∷_, _++_}
 use mathlib.Core.Option.{Option, none, some}
 use Prim.Native.Nat.{ℕ, _<_}
@@ -13,11 +13,11 @@ use Rattle.cluster.specs.declared.Call.{Call}
 use Rattle.cluster.specs.declared.Call.the-variants as call
 use Rattle.cluster.specs.State.{State, entryAt}
 use Rattle.cluster.specs.Replies.{Reply}
-use Rattle.cluster.specs.Effects.{Result, noBytes}
+use Rattle.cluster.specs.Effects.{Result}
 use Rattle.cluster.specs.Step.{step}
 use Rattle.guarantee.specs.Registers.{changed}
 use Rattle.guarantee.specs.History.{Element, History, stands, startingMark, openedAt, told, heard, counted, Moment, next, along}
-use Rattle.guarantee.specs.Guarantee.{Fits, Covered, CoveredAll}
+use Rattle.guarantee.specs.Guarantee.{Fits, CoveredAll}
 
 -- ================ the outline
 

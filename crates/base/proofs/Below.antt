@@ -1,6 +1,6 @@
 -- Laws of `all`, `count`, `highest` and `upTo`: a turn of the loop that computes them, and what they say.
 -- Assumes nothing.
-use mathlib.Core.Path.{_≡_, refl, _∙_}
+use mathlib.Core.Path.{_≡_, refl, ap, _∙_}
 use mathlib.Core.Bool.{Bool, true, false, _&&_}
 use mathlib.Core.List.{List}
 use mathlib.Core.Logic.{⊎-elim}
@@ -65,6 +65,18 @@ pub count-none : (p : ℕ → Bool) (n : ℕ) → ((i : ℕ) → i < n → p i �
 unfolding count
 count-none p zero h = refl
 count-none p (suc n) h = rw (h n (omega arith)) (omega (arith, count-none p n (λ i l. h i (omega arith))))
+
+-- a count above 0 has a member
+pub count-some : (p : ℕ → Bool) (n : ℕ) → 0 < count p n → (i : ℕ) × (i < n) × (p i ≡ true)
+unfolding count
+count-some p zero l = absurd (omega arith)
+count-some p (suc n) l = go (p n) refl (count-some p n)
+  where
+    go : (b : Bool) → p n ≡ b → (0 < count p n → (i : ℕ) × (i < n) × (p i ≡ true)) → (i : ℕ) × (i < suc n) × (p i ≡ true)
+    go true e ih = (n, omega arith, e)
+    go false e ih =
+        let w = ih (omega (arith, ap bit e, l)) in
+        (w .0, omega (arith, w .1), w .2)
 
 -- the count from the other end
 pub count-front : (p : ℕ → Bool) (n : ℕ) → count p (suc n) ≡ bit (p 0) + count (λ i. p (suc i)) n

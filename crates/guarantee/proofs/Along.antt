@@ -1,6 +1,7 @@
 -- Along a list of calls: each is declined and changes nothing, or is a list of events. So every list of calls is one.
 -- Assumes nothing.
 use mathlib.Core.Path.{_≡_, refl}
+use mathlib.Core.Logic.{_⊎_, inl, inr}
 use mathlib.Core.Bool.{Bool, true, false, cond}
 use mathlib.Core.List.{List, [], _∷_}
 use Prim.Native.Nat.{ℕ}
@@ -12,15 +13,15 @@ use Rattle.cluster.specs.declared.Shape.{Shape}
 use Rattle.cluster.specs.declared.Call.{Call}
 use Rattle.cluster.specs.declared.Call.the-variants as call
 use Rattle.cluster.specs.State.{State}
-use Rattle.cluster.specs.Refusals.{Input, rows, Verdict, pass, declined, firstOf}
+use Rattle.cluster.specs.Refusals.{Input}
 use Rattle.cluster.specs.Replies.{ok, silent}
-use Rattle.cluster.specs.Step.{effect, unless, step}
+use Rattle.cluster.specs.Step.{effect}
 use Rattle.cluster.proofs.Declines.{isAnswered, declines}
 use Rattle.guarantee.specs.History.{Element, History, told, heard, counted, Moment, next, along}
-use Rattle.guarantee.specs.Guarantee.{InRange, Admitted, AdmittedAll}
+use Rattle.guarantee.specs.Guarantee.{InRange, Covered, CoveredAll}
 use Rattle.guarantee.proofs.Ties.{Sim, Goes}
-use Rattle.guarantee.proofs.Passing.{passed}
-use Rattle.guarantee.proofs.Played.{with-call, Before, Played, step-passes}
+use Rattle.guarantee.proofs.Passing.{Passes, step-passes, Refused, judged, passed}
+use Rattle.guarantee.proofs.Played.{with-call, Before, Played}
 use Rattle.guarantee.proofs.calls.Prepare.{prepare-played}
 use Rattle.guarantee.proofs.calls.Copy.{copy-played}
 use Rattle.guarantee.proofs.calls.Trim.{trim-played}
@@ -64,35 +65,34 @@ counted-tie h x H σ S =
     record { R = S .R; Q = S .Q; register = S .register; replicas = S .replicas; servers = S .servers; sessions = S .sessions }
 
 module _ (h : Shape) (m : Moment) (e : Element) where
-  next-declined : (n : ℕ) (values : List ℕ) → firstOf (rows h (m .state) (e .input)) ≡ declined n values
-      → next h m e ≡ record { state = m .state; history = counted (m .history) }
-  unfolding next step unless heard
-  next-declined n values q = rw q
+  next-declined : Refused h (m .state) (e .input) → next h m e ≡ record { state = m .state; history = counted (m .history) }
+  unfolding next heard
+  next-declined q = rw (q .result)
 
-  next-passed : firstOf (rows h (m .state) (e .input)) ≡ pass
+  next-passed : Passes h (m .state) (e .input)
       → let r = effect h (m .state) (e .input) (e .input .call) in
       next h m e ≡ record { state = r .state; history = counted (told h (m .state) e r (m .history) (e .input .call)) }
   unfolding next
   next-passed q =
       rw (step-passes h (m .state) (e .input) q, heard-effect h (m .state) (e .input) (m .history) (told h (m .state) e (effect h (m .state) (e .input) (e .input .call)) (m .history) (e .input .call)))
 
-  one-call : InRange h → (σ : protocol.State) → Sim h (m .state) (m .history) σ → Inv σ → Admitted h m e
+  one-call : InRange h → (σ : protocol.State) → Sim h (m .state) (m .history) σ → Inv σ → Covered h m e
       → Goes h σ (next h m e .state) (next h m e .history)
-  one-call range σ S I a = go (firstOf (rows h (m .state) (e .input))) refl
+  one-call range σ S I a = go (judged h (m .state) (e .input))
     where
-      go : (d : Verdict) → firstOf (rows h (m .state) (e .input)) ≡ d → Goes h σ (next h m e .state) (next h m e .history)
-      go (declined n values) q =
-          rw (next-declined n values q) (σ, Steps.none, counted-tie h (m .state) (m .history) σ S)
-      go pass q =
+      go : Refused h (m .state) (e .input) ⊎ Passes h (m .state) (e .input) → Goes h σ (next h m e .state) (next h m e .history)
+      go (inl q) =
+          rw (next-declined q) (σ, Steps.none, counted-tie h (m .state) (m .history) σ S)
+      go (inr q) =
           let p = e .input in
           let w = played h (m .state) (m .history) σ (p .content) (p .locks) (p .given) (e .reader) (p .call)
-          (record { range = range; sim = S; inv = I; passes = q; passed = passed h (m .state) p q; admitted = a }) in
+          (record { range = range; sim = S; inv = I; passes = q; passed = passed h (m .state) p q; covered = a }) in
           rw (next-passed q) (w .0, w .1, counted-tie h _ _ (w .0) (w .2))
 
 -- ================ a list of calls
 
 pub all-calls : (h : Shape) → InRange h → (es : List Element) (m : Moment) (ρ σ : protocol.State) → Steps ρ σ → Inv ρ
-    → Sim h (m .state) (m .history) σ → AdmittedAll h m es
+    → Sim h (m .state) (m .history) σ → CoveredAll h m es
     → (τ : protocol.State) × Steps ρ τ × Sim h (along h m es .state) (along h m es .history) τ
 unfolding along
 all-calls h range [] m ρ σ r I S a = (σ, r, S)

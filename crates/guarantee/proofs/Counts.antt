@@ -37,7 +37,7 @@ tally-is p {P} d (suc n) f g =
 -- flags and marks of the replicas below R, as a server's record has them and as the protocol has them
 module _ (R : ℕ) (flag flag′ : ℕ → Bool) (mark mark′ : ℕ → ℕ) (same : (j : ℕ) → j < R → flag j ≡ flag′ j)
     (marks : (j : ℕ) → j < R → flag′ j ≡ true → mark j ≡ mark′ j) where
-  pub flags-tie : count flag R ≡ tally (flagged? flag′) R
+  flags-tie : count flag R ≡ tally (flagged? flag′) R
   flags-tie = tally-is flag (flagged? flag′) R (λ j l p. sym (same j l) ∙ p) (λ j l p. same j l ∙ p)
 
   reaching : (m j : ℕ) → j < R → (flag j && leb m (mark j)) ≡ true → (flag′ j ≡ true) × (m ≤ mark′ j)
@@ -49,10 +49,10 @@ module _ (R : ℕ) (flag flag′ : ℕ → Bool) (mark mark′ : ℕ → ℕ) (s
   reached : (m j : ℕ) → j < R → (flag′ j ≡ true) × (m ≤ mark′ j) → (flag j && leb m (mark j)) ≡ true
   reached m j l p = rw (same j l ∙ p .0, le-leb m (mark j) (omega (arith, p .1, marks j l (p .0))))
 
-  pub reach-tie : (m : ℕ) → reach flag mark R m ≡ tally (reaches? flag′ mark′ m) R
+  reach-tie : (m : ℕ) → reach flag mark R m ≡ tally (reaches? flag′ mark′ m) R
   reach-tie m = tally-is (λ j. flag j && leb m (mark j)) (reaches? flag′ mark′ m) R (reaching m) (reached m)
 
-  pub above-tie : (D : ℕ) → reach flag mark R (suc D) ≡ tally (above? flag′ mark′ D) R
+  above-tie : (D : ℕ) → reach flag mark R (suc D) ≡ tally (above? flag′ mark′ D) R
   above-tie D = tally-is (λ j. flag j && leb (suc D) (mark j)) (above? flag′ mark′ D) R (reaching (suc D)) (reached (suc D))
 
 -- of session z of the protocol

@@ -1,27 +1,17 @@
 -- The theorem of condition 3.
 -- Assumes nothing.
-use mathlib.Core.Logic.{⊎-elim}
-use Prim.Native.Nat.{_≤_, _<_}
-use native.Mathlib.Omega.{arith}
 use Rattle.quorum.specs.Vote.{quorum}
 use Rattle.protocol.specs.State as protocol
 use Rattle.protocol.specs.Events.{Steps}
 use Rattle.protocol.proofs.Fresh.{fresh-inv}
 use Rattle.protocol.proofs.Keeps.{steps-inv}
 use Rattle.protocol.proofs.Guarantee.{safe}
-use Rattle.cluster.specs.declared.Shape.{Shape}
 use Rattle.guarantee.specs.History.{beginning}
-use Rattle.guarantee.specs.Guarantee.{InRange, Guarantee}
+use Rattle.guarantee.specs.Guarantee.{Guarantee}
+use Rattle.guarantee.proofs.Facts.{quorate}
 use Rattle.guarantee.proofs.Fresh.{fresh-tie}
 use Rattle.guarantee.proofs.Along.{all-calls}
 use Rattle.guarantee.proofs.Conclusions.{kept}
-
--- a quorum is some replicas, and no more than there are
-quorate : (h : Shape) → InRange h → (0 < quorum (h .replicas)) × (quorum (h .replicas) ≤ h .replicas)
-quorate h r =
-    ⊎-elim (λ e. rw e (omega arith))
-    (⊎-elim (λ e. rw e (omega arith)) (⊎-elim (λ e. rw e (omega arith)) (λ e. rw e (omega arith))))
-    (r .replicas)
 
 pub guarantee : Guarantee
 guarantee h range es a =

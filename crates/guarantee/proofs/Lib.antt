@@ -23,10 +23,12 @@
 --   Sessions    a session after an issue, and after what it acknowledges
 --   Registers   the register that an open leaves; Opening: what an open finds; Opened: what it leaves
 --
--- Beside the theorem: Example, a list worked out.
+-- Beside the theorem: Readable, every list of calls that fit is one of its lists; Whole, what it comes to for two sessions; Once, nothing in a history
+-- is written over. The crate guarantee_example works a list out.
 -- Assumes nothing.
 pub mod Ties
 pub mod Blocks
+pub mod Sessions
 pub mod Frames
 pub mod Passing
 pub mod Counts
@@ -37,7 +39,6 @@ pub mod Records
 pub mod Hearing
 pub mod Standing
 pub mod Appending
-pub mod Sessions
 pub mod Registers
 pub mod Facts
 pub mod Fresh
@@ -48,4 +49,6 @@ pub mod Opened
 pub mod calls
 pub mod Along
 pub mod Guarantee
-pub mod Example
+pub mod Readable
+pub mod Whole
+pub mod Once

@@ -25,6 +25,7 @@ use Rattle.cluster.specs.State.{State, idleServer, serverAt, putServer, putRegi
 use Rattle.cluster.specs.Refusals.{voteMark, cleanAt, sessionDiffers}
 use Rattle.cluster.specs.Effects.{openedRegister, openedServer}
 use Rattle.guarantee.specs.History.{History, stands, openedAt}
+use Rattle.guarantee.proofs.Sessions.{setAt-same, setAt-other}
 use Rattle.guarantee.proofs.Ties.{rowOf, storyOf, loggedOf, OpenTie, Live, ServersTie, RegisterTie, SessionTie, SessionsTie, Sim}
 use Rattle.guarantee.proofs.Frames.{Alone, server-frame, idle-frame, alone-in, table-others, table-written, session-frame}
 use Rattle.guarantee.proofs.Registers.{opened-tie}
@@ -176,7 +177,7 @@ module _ (h : Shape) (x : State) (H : History) (σ : protocol.State) (S : Sim h 
   session : SessionTie (openedAt H z D (stands (h .places) x H a) .sessions z) (storyOf τ z)
   session =
       rw (
-        upd-same (H .sessions) z _,
+        setAt-same (H .sessions) z _,
         upd-same (σ .opened) z true,
         upd-same (σ .start) z D,
         upd-same (σ .issued) z D,
@@ -197,7 +198,7 @@ module _ (h : Shape) (x : State) (H : History) (σ : protocol.State) (S : Sim h 
   sessions : SessionsTie (openedAt H z D (stands (h .places) x H a) .sessions) (storyOf τ)
   sessions =
       session-frame (H .sessions) (openedAt H z D (stands (h .places) x H a) .sessions) (storyOf σ) (storyOf τ) (S .sessions) z
-      (λ u d. upd-other (H .sessions) z _ u d) stories session
+      (λ u d. setAt-other (H .sessions) z _ u d) stories session
 
   -- ---- the two
 

@@ -1,6 +1,5 @@
 -- What each call's proof is given, and what it has to show: a file of calls/ for each.
 -- Assumes nothing.
-use mathlib.Core.Path.{_≡_}
 use mathlib.Core.List.{List}
 use Prim.Native.Nat.{ℕ}
 use Rattle.protocol.specs.State as protocol
@@ -8,12 +7,11 @@ use Rattle.protocol.proofs.Invariant.{Inv}
 use Rattle.cluster.specs.declared.Shape.{Shape}
 use Rattle.cluster.specs.declared.Call.{Call}
 use Rattle.cluster.specs.State.{State}
-use Rattle.cluster.specs.Refusals.{Input, rows, pass, firstOf}
-use Rattle.cluster.specs.Step.{effect, unless, step}
+use Rattle.cluster.specs.Step.{effect}
 use Rattle.guarantee.specs.History.{Element, History, told}
-use Rattle.guarantee.specs.Guarantee.{InRange, Admitted}
+use Rattle.guarantee.specs.Guarantee.{InRange, Covered}
 use Rattle.guarantee.proofs.Ties.{Sim, Goes}
-use Rattle.guarantee.proofs.Passing.{Passed}
+use Rattle.guarantee.proofs.Passing.{Passes, Passed}
 
 -- an element of the list with this call
 abbrev pub with-call : Call → (content locks given : List ℕ) → (reader : ℕ) → Element
@@ -25,16 +23,12 @@ pub record Before (h : Shape) (x : State) (H : History) (σ : protocol.State) (e
   pub range : InRange h
   pub sim : Sim h x H σ
   pub inv : Inv σ
-  pub passes : firstOf (rows h x (e .input)) ≡ pass
+  pub passes : Passes h x (e .input)
   pub passed : Passed h x (e .input)
-  pub admitted : Admitted h (record { state = x; history = H }) e
+  pub covered : Covered h (record { state = x; history = H }) e
 
 -- what it leaves is reached by a list of events
 abbrev pub Played : Shape → State → History → protocol.State → Element → Type 0
 Played h x H σ e =
     let r = effect h x (e .input) (e .input .call) in
     Goes h σ (r .state) (told h x e r H (e .input .call))
-
-pub step-passes : (h : Shape) (x : State) (p : Input) → firstOf (rows h x p) ≡ pass → step h x p ≡ effect h x p (p .call)
-unfolding step unless
-step-passes h x p e = rw e

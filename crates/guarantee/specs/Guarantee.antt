@@ -1,16 +1,49 @@
 -- THE GUARANTEE BETWEEN SESSIONS, condition 3, as one statement about a whole list of calls. The words stand in History.antt; the calls are those
 -- of the crate cluster, which the running calls are proved to do. proofs/Guarantee.antt has the theorem: `guarantee : Guarantee`.
 --
--- For every cluster of R = 1, 3, 5 or 7 replicas with 1 to 1,000 places each, and every list of calls from the fresh cluster, of any two sessions
--- that are opened in it:
---   (1) all that the earlier ever acknowledges lies at or below the later one's starting mark;
---   (2) both logs hold bytes under each ID that both acknowledge, and the same (they are even of the same issue call);
---   (3) no transaction in a log shares a lock with one that stands in that log above its client's mark and below its own ID.
+-- The demand, clause by clause, and where it is said:
+--   "Each call of its list gets register, media, server records and lock tables as the one before left them, with the cluster's R and N; nobody else
+--     writes these meanwhile."                                          History.antt `along`, from the fresh cluster's `beginning`
+--   "It is one statement about the whole list, not one for each call."  `Guarantee`, below: for every list es
+--   "A declined call answers nothing."                                  History.antt `heard`
+--   "A server's calls belong to the session that its last take answered"  History.antt `current`, told of a take
+--   "of two, the lower number is the earlier."                          s < u in `Kept.start`
+--   "A session is opened when an open call of it changes the register, even if the answer is lost"  History.antt `told` of an open
+--   "its starting mark is what that call answers under the fate answered."  History.antt `startingMark`
+--   "Its log is, up to that mark, what then stands on a replica whose entry this call sets to the session (whichever such replica is read), then each
+--     record it issued under its ID."                                   History.antt `log`, `stands`; `Covered.reads`, below
+--   "It acknowledges every ID up to its starting mark and up to each answer of its sends and, once opened, of its copies."  History.antt `openedAt`,
+--                                                                       `acknowledging`, `onceOpened`
+--   "A send that makes a place valid puts there the transaction of its session's issue that answered this place's number; a copy puts there the one in
+--     a's place of the same number."                                    History.antt `put`, `told` of a send and of a copy
+--   "A transaction's locks and client mark are those of its issue call, not of another with equal bytes."  History.antt `Transaction`
+-- Of any two sessions that are opened in a list:
+--   (1) all that the earlier ever acknowledges lies at or below the later one's starting mark: `Kept.start`
+--   (2) both logs hold the same bytes under each ID that both acknowledge: `Kept.same`. There is one x that both logs have under n, bytes and
+--       transaction: they are even of the same issue call. s = u is included: a log has something under each ID that its session acknowledges.
+--   (3) no transaction in a log shares a lock with one that stands in that log above its client's mark and below its own ID: `Kept.apart`
+--
+-- Each list of calls whose arguments fit is one of these lists: proofs/Readable.antt `readable`. With (1) and (2): all that the earlier of two
+-- opened sessions ever acknowledges is in the later one's log, the same bytes (proofs/Whole.antt `whole`). Nothing in a history is written over: a
+-- session is opened once and issues an ID once (proofs/Once.antt `once`). The crate guarantee_example works a list out.
+--
+-- How to read it, if you do not know the notation:
+--   x : A                  x is of the type A; ℕ are the numbers from 0, Bool is true or false, Type 0 is what is to be shown
+--   (x : A) → B            for every x of type A, B; without a name: if A, then B. A → B is also a function from A to B
+--   f a b                  f of a and b; f (g a) is f of g of a; λ n. t is the function that gives t for n
+--   A × B, (x : A) × B     A and B; there is an x of type A for which B. A ⊎ B: A or B. ¬ A: not A
+--   a ≡ b                  a and b are equal
+--   r .field               the field of a record; record { field = v; .. } is a record, and `pub record` says which fields one has
+--   [], x ∷ xs             the empty list; the list that begins with x and goes on with xs. List·Memᴰ k l: k is in l
+--   none, some x           an Option: nothing, or x
+--   cond b x y             x if the test b is true, else y; leb, eqb: the tests ≤ and =
+--   let n = t in u         u, with n for t
+--   abbrev, unfoldable     what follows is a definition (the two differ for the prover only); `use` names what is taken from other files
 -- Assumes nothing.
 use Prim.Native.Nat.{ℕ, _≤_, _<_, _^_}
 use mathlib.Core.Path.{_≡_}
 use mathlib.Core.Logic.{_⊎_}
-use mathlib.Core.Bool.{true}
+use mathlib.Core.Bool.{Bool, true, false}
 use mathlib.Core.List.{List, [], _∷_, List·Memᴰ}
 use mathlib.Core.Option.{some}
 use lib.ListN.{length}
@@ -19,6 +52,7 @@ use Rattle.fate.specs.declared.Fate.{Fate}
 use Rattle.storage.specs.Sizes.{placeSize}
 use Rattle.cluster.specs.declared.Shape.{Shape}
 use Rattle.cluster.specs.declared.Request.{Request}
+use Rattle.cluster.specs.declared.Call.{Call}
 use Rattle.cluster.specs.declared.Call.the-variants as call
 use Rattle.cluster.specs.State.{entryAt}
 use Rattle.cluster.specs.Refusals.{Input}
@@ -42,23 +76,37 @@ pub record RequestFits (q : Request) : Type 0 where
   pub sequence : q .sequence < 2 ^ 32
   pub header : q .header < 2 ^ 32
 
+-- the calls with a message to a replica: bytes for a torn write lie beside them. The other five read none, so that any may stand there.
+abbrev pub messages : Call → Bool
+messages (call.Take s f) = false
+messages (call.Prepare s i f) = true
+messages (call.Copy s a b f) = true
+messages (call.Trim s i f) = true
+messages (call.Open s f) = false
+messages (call.Issue s q) = false
+messages (call.Send s i f) = true
+messages (call.Note s i f) = true
+messages (call.Read s i n f) = true
+messages (call.Stop s) = false
+messages call.Reassign = false
+
 pub record Fits (p : Input) : Type 0 where
-  pub given : length (p .given) ≡ placeSize  -- "Given bytes are 64"
+  pub given : messages (p .call) ≡ true → length (p .given) ≡ placeSize  -- "Given bytes are 64"
   pub content : Bytes (p .content)
   pub request : (s : ℕ) (q : Request) → p .call ≡ call.Issue s q → RequestFits q
 
--- an element whose arguments fit. For a call that opens a session the replica read is one "whose entry this call sets to the session (whichever
--- such replica is read)".
-pub record Admitted (h : Shape) (m : Moment) (e : Element) : Type 0 where
+-- An element that the guarantee speaks of, declined or not: its arguments fit, and for a call that opens a session the replica read is one "whose
+-- entry this call sets to the session (whichever such replica is read)". m is the moment before the call.
+pub record Covered (h : Shape) (m : Moment) (e : Element) : Type 0 where
   pub fits : Fits (e .input)
   pub reads : (s : ℕ) (f : Fate) → e .input .call ≡ call.Open s f
       → let g = m .state .records .register in
       let k = next h m e .state .records .register in
       changed g k ≡ true → (e .reader < h .replicas) × (entryAt (k .entries) (e .reader) .session ≡ m .history .current s)
 
-abbrev pub AdmittedAll : Shape → Moment → List Element → Type 0
-AdmittedAll h m [] = Unit {0}
-AdmittedAll h m (e ∷ es) = Admitted h m e × AdmittedAll h (next h m e) es
+abbrev pub CoveredAll : Shape → Moment → List Element → Type 0
+CoveredAll h m [] = Unit {0}
+CoveredAll h m (e ∷ es) = Covered h m e × CoveredAll h (next h m e) es
 
 -- ================ what holds
 
@@ -80,4 +128,4 @@ pub record Kept (H : History) : Type 0 where
       → x .transaction .mark < m → m < n → ¬ Share (x .transaction) (y .transaction)
 
 abbrev pub Guarantee : Type 0
-Guarantee = (h : Shape) → InRange h → (es : List Element) → AdmittedAll h (beginning h) es → Kept (along h (beginning h) es .history)
+Guarantee = (h : Shape) → InRange h → (es : List Element) → CoveredAll h (beginning h) es → Kept (along h (beginning h) es .history)

@@ -1,23 +1,25 @@
 -- The history of a list of calls: what document 01, "Words of demand 3", says of sessions, their logs, what they acknowledge, and the
 -- transaction that stands in a place. It is folded along the list: each call gets the state as the one before left it, and adds to the history.
+-- The notation is explained at the head of Guarantee.antt.
 -- Assumes nothing.
 use Prim.Native.Nat.{ℕ, suc, max}
 use mathlib.Core.Bool.{Bool, true, false, not, cond, _&&_}
+use mathlib.Core.Logic.{ite}
 use mathlib.Core.List.{List, [], _∷_}
 use mathlib.Core.Option.{Option, none, some}
+use native.Mathlib.Decide.{ℕ-discrete}
 use lib.Dec.{leb}
 use Rattle.fate.specs.declared.Fate.the-variants.{Answered}
-use Rattle.storage.specs.Places.{validPlace}
+use Rattle.storage.specs.Places.{recordBytes, validPlace}
 use Rattle.storage.specs.Log.{placeAt}
 use Rattle.storage.specs.Operations.{mediumAt}
-use Rattle.protocol.specs.Columns.{upd}
 use Rattle.cluster.specs.declared.Shape.{Shape}
 use Rattle.cluster.specs.declared.Call.{Call}
 use Rattle.cluster.specs.declared.Call.the-variants as call
-use Rattle.cluster.specs.State.{State, serverAt, fresh}
+use Rattle.cluster.specs.State.{State, fresh}
 use Rattle.cluster.specs.Replies.{Reply, ok, no, silent}
 use Rattle.cluster.specs.Refusals.{Input}
-use Rattle.cluster.specs.Effects.{Result}
+use Rattle.cluster.specs.Effects.{Result, issuedFields}
 use Rattle.cluster.specs.Step.{step}
 use Rattle.guarantee.specs.Registers.{changed}
 
@@ -59,7 +61,13 @@ pub record History : Type 0 where
 
 -- ================ what a call adds
 
--- the value that a call answers, if it answers one
+-- the function f, but with the value v at i
+unfoldable pub setAt : {A : Type 0} → (ℕ → A) → ℕ → A → ℕ → A
+setAt f i v j = ite (ℕ-discrete i j) v (f j)
+
+-- The value that a call answers, or d if it answers none. Where d is 0 below: a send or copy that is not answered acknowledges nothing, and 0
+-- says just that, since IDs count from 1. An issue that is not declined answers its ID, and an open that changes the register answers its mark
+-- under the fate answered (proofs/calls/Open.antt `open-answers`), so there the 0 never arises.
 abbrev pub valueOr : ℕ → Reply → ℕ
 valueOr d (ok []) = d
 valueOr d (ok (v ∷ vs)) = v
@@ -68,15 +76,15 @@ valueOr d silent = d
 
 abbrev pub withCurrent : History → ℕ → ℕ → History
 withCurrent H s n =
-    record { calls = H .calls; current = upd (H .current) s n; standing = H .standing; sessions = H .sessions }
+    record { calls = H .calls; current = setAt (H .current) s n; standing = H .standing; sessions = H .sessions }
 
 abbrev pub withStanding : History → ℕ → (ℕ → Option Transaction) → History
 withStanding H i places =
-    record { calls = H .calls; current = H .current; standing = upd (H .standing) i places; sessions = H .sessions }
+    record { calls = H .calls; current = H .current; standing = setAt (H .standing) i places; sessions = H .sessions }
 
 abbrev pub withSession : History → ℕ → Session → History
 withSession H s z =
-    record { calls = H .calls; current = H .current; standing = H .standing; sessions = upd (H .sessions) s z }
+    record { calls = H .calls; current = H .current; standing = H .standing; sessions = setAt (H .sessions) s z }
 
 -- place n of replica i is valid
 abbrev pub validAt : ℕ → State → ℕ → ℕ → Bool
@@ -97,6 +105,10 @@ acknowledging H s n =
     let z = H .sessions s in
     withSession H s
     (record { opened = z .opened; start = z .start; starting = z .starting; issues = z .issues; acknowledged = max (z .acknowledged) n })
+
+-- what a copy's answer counts for
+abbrev pub onceOpened : Bool → ℕ → ℕ
+onceOpened opened n = cond opened n 0
 
 -- what stands in place n of replica i: the bytes of the place, if it is valid, and the transaction that was put there
 abbrev pub loggedAs : List ℕ → Option Transaction → Option Logged
@@ -119,12 +131,11 @@ openedAt H s d starting =
     withSession H s
     (record { opened = true; start = d; starting = starting; issues = z .issues; acknowledged = max (z .acknowledged) d })
 
--- the issued record is the one that the server holds after the call
 abbrev pub issuedAs : History → ℕ → ℕ → Logged → History
 issuedAs H s n l =
     let z = H .sessions s in
     withSession H s
-    (record { opened = z .opened; start = z .start; starting = z .starting; issues = upd (z .issues) n (some l); acknowledged = z .acknowledged })
+    (record { opened = z .opened; start = z .start; starting = z .starting; issues = setAt (z .issues) n (some l); acknowledged = z .acknowledged })
 
 -- A call of state x that is not declined, with its result r. "A server's calls belong to the session that its last take answered."
 unfoldable pub told : Shape → State → Element → Result → History → Call → History
@@ -132,16 +143,19 @@ told h x e r H (call.Take s f) = withCurrent H s (valueOr (H .current s) (r .rep
 -- "a copy puts there the one in a's place of the same number"
 told h x e r H (call.Copy s a b f) =
     let z = H .current s in
-    acknowledging (put (h .places) x (r .state) b (H .standing a) H) z (cond (H .sessions z .opened) (valueOr 0 (r .reply)) 0)
--- "A session is opened when an open call of it changes the register, even if the answer is lost"
+    acknowledging (put (h .places) x (r .state) b (H .standing a) H) z (onceOpened (H .sessions z .opened) (valueOr 0 (r .reply)))
+-- "A session is opened when an open call of it changes the register, even if the answer is lost"; its log is "what then stands": an open changes
+-- no medium, so the state before the call is as good as the one after it.
 told h x e r H (call.Open s f) =
     cond (changed (x .records .register) (r .state .records .register))
     (openedAt H (H .current s) (startingMark h x (e .input) s) (stands (h .places) x H (e .reader)))
     H
+-- the issued record is the one that document 01 lays out for the request, its data and the ID that it is given
 told h x e r H (call.Issue s q) =
-    issuedAs H (H .current s) (valueOr 0 (r .reply))
+    let n = valueOr 0 (r .reply) in
+    issuedAs H (H .current s) n
     (record {
-      bytes = serverAt (r .state .records) s .held;
+      bytes = recordBytes (issuedFields n q) (e .input .content);
       transaction = record { call = H .calls; locks = e .input .locks; mark = q .mark };
     })
 -- "A send that makes a place valid puts there the transaction of its session's issue that answered this place's number"

@@ -81,7 +81,7 @@ module _ (σ : State) (I : Inv σ) where
   -- ---- a change of marks that an opening server heard: the opened sessions' rows stay
 
   module _ (s : ℕ) (p : σ .phase s ≡ Opening) (row : ℕ → ℕ) where
-    pub recorded-old : (t : ℕ) → σ .opened t ≡ true → upd (σ .recorded) s row t ≡ σ .recorded t
+    recorded-old : (t : ℕ) → σ .opened t ≡ true → upd (σ .recorded) s row t ≡ σ .recorded t
     recorded-old t o = upd-other (σ .recorded) s row t (λ e. unopened s p (rw e o))
 
     pub recorded-newest : upd (σ .recorded) s row σ.newest ≡ σ .recorded σ.newest

@@ -30,7 +30,7 @@ pub mod Hear
 pub mod Acknowledge
 pub mod Stop
 
-pub step-inv : {σ τ : State} → Step σ τ → Inv σ → Inv τ
+step-inv : {σ τ : State} → Step σ τ → Inv σ → Inv τ
 step-inv (Step.take σ) I = take-inv σ I
 step-inv (Step.promise σ s i g) I = promise-inv σ I s i g
 step-inv (Step.cut σ s i k g) I = cut-inv σ I s i k g

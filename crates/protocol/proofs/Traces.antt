@@ -9,7 +9,7 @@ use native.Mathlib.Decide.{decLe}
 use Rattle.protocol.specs.Columns.{count}
 use Rattle.protocol.specs.State.{Tx, Opening, Open, State}
 use Rattle.protocol.specs.Marks.{flagged?, unflagged?, above?, reaches?, Decided, Reached}
-use Rattle.protocol.specs.Events.{after-take, after-promise, after-cut, after-learn, after-forget, after-copy, after-trim, after-open, after-issue, after-append, after-hear, after-acknowledge, after-stop, Can-copy, Can-trim, Can-open, Can-issue, Can-append, Can-hear, Can-acknowledge, Step, Steps, _▸_}
+use Rattle.protocol.specs.Events.{after-take, after-promise, after-cut, after-learn, after-forget, after-copy, after-trim, after-open, after-issue, after-append, after-hear, after-acknowledge, Can-copy, Can-trim, Can-open, Can-issue, Can-append, Can-hear, Can-acknowledge, Step, Steps, _▸_}
 use Rattle.protocol.proofs.Columns.{upd-same, upd²-at, append-up}
 use Rattle.protocol.proofs.Counting.{count-mono, count-split}
 use Rattle.protocol.proofs.Invariant.{Inv}
@@ -20,18 +20,8 @@ use Rattle.protocol.proofs.Facts.{not-both}
 pub take-answered : (σ : State) → Steps σ (after-take σ)
 take-answered σ = Steps.none ▸ Step.take σ
 
-pub take-answer-lost : (σ : State) → Steps σ (after-stop (after-take σ) (suc (σ .session)))
-take-answer-lost σ = take-answered σ ▸ Step.stop (after-take σ) (suc (σ .session))
-
 pub open-answered : (σ : State) (s D a : ℕ) → Can-open σ s D a → Steps σ (after-open σ s D a)
 open-answered σ s D a g = Steps.none ▸ Step.opens σ s D a g
-
-pub open-answer-lost : (σ : State) (s D a : ℕ) → Can-open σ s D a → Steps σ (after-stop (after-open σ s D a) s)
-open-answer-lost σ s D a g = open-answered σ s D a g ▸ Step.stop (after-open σ s D a) s
-
--- stop; also an open that is lost, and one that finds another session and is not answered
-pub stopped : (σ : State) (s : ℕ) → Steps σ (after-stop σ s)
-stopped σ s = Steps.none ▸ Step.stop σ s
 
 -- "those of them reaching more, plus R minus the number known, are fewer than Q"
 pub decided : (σ : State) (s D : ℕ)
@@ -114,19 +104,12 @@ highest σ s m h n r = go (decLe n m)
       count-mono (reaches? (σ .member s) (σ .recorded s) n) (reaches? (σ .member s) (σ .recorded s) (suc m)) (λ j p. (p .0, omega (arith, p .1))) (σ .R),
     )))
 
--- silent, nothing written: the acknowledged mark is still computed anew
-pub send-lost : (σ : State) (s m : ℕ) → Can-acknowledge σ s m → Steps σ (after-acknowledge σ s m)
-send-lost σ s m c = Steps.none ▸ Step.acknowledge σ s m c
-
 -- x is in the next place of i, and the server heard
 abbrev pub sent : State → ℕ → ℕ → Tx → State
 sent σ s i x = after-hear (after-append σ i x) s i
 
 -- the place became valid
 module _ (σ : State) (s i : ℕ) (x : Tx) (g : Can-append σ s i x) where
-  pub send-silent : (m : ℕ) → Can-acknowledge (after-append σ i x) s m → Steps σ (after-acknowledge (after-append σ i x) s m)
-  send-silent m c = Steps.none ▸ Step.append σ s i x g ▸ Step.acknowledge (after-append σ i x) s m c
-
   pub send-answered : σ .recorded s i ≤ σ .mark i → (m : ℕ) → Can-acknowledge (sent σ s i x) s m → Steps σ (after-acknowledge (sent σ s i x) s m)
   send-answered h m c = Steps.none ▸ Step.append σ s i x g ▸ Step.hear (after-append σ i x) s i heard ▸ Step.acknowledge (sent σ s i x) s m c
     where

@@ -1,4 +1,5 @@
 pub mod Laws
 pub mod Reach
 pub mod Filling
+pub mod Decided
 pub mod Same

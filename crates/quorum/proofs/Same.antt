@@ -14,7 +14,7 @@ module _ (r : ℕ) (p q : ℕ → Bool) (mark : ℕ → ℕ) (e : Same r p q) wh
   reach-same : (m : ℕ) → reach p mark r m ≡ reach q mark r m
   reach-same m = count-same r (λ i. p i && leb m (mark i)) (λ i. q i && leb m (mark i)) (λ i h. ap (λ (b : Bool). b && leb m (mark i)) (e i h))
 
-  pub majority-same : majorityMark p mark r ≡ majorityMark q mark r
+  majority-same : majorityMark p mark r ≡ majorityMark q mark r
   unfolding majorityMark backed
   majority-same =
       highest-same r (backed p mark r) (backed q mark r)

@@ -17,10 +17,10 @@ use Rattle.storage.specs.Operations.{mediumAt, appendWrites}
 use Rattle.storage.proofs.Scan.{mark-le}
 use Rattle.protocol.specs.State as protocol
 use Rattle.protocol.specs.State.{Tx}
-use Rattle.protocol.specs.Columns.{upd, upd², append-mark, append-place}
+use Rattle.protocol.specs.Columns.{upd², append-mark, append-place}
 use Rattle.protocol.specs.With.{with-replicas, with-servers}
 use Rattle.protocol.specs.Events.{after-append, Can-copy, Steps}
-use Rattle.protocol.proofs.Columns.{upd-same, upd-other, upd²-at}
+use Rattle.protocol.proofs.Columns.{upd-same, upd²-at}
 use Rattle.protocol.proofs.Facts.{unopened}
 use Rattle.protocol.proofs.Traces.{forgotten, copy-answered, copy-silent, copy-is-send}
 use Rattle.cluster.specs.declared.Shape.{Shape}
@@ -32,7 +32,8 @@ use Rattle.cluster.specs.State.{State, serverAt, markAt, activeAt, tableAt}
 use Rattle.cluster.specs.Replies.{ok}
 use Rattle.cluster.specs.Refusals.{answered, isOpen, refusesAt}
 use Rattle.cluster.specs.Effects.{heard, unheard, acknowledge, mediumAfter, afterMessage, replyTo, withMediumAndServer, appendEffect}
-use Rattle.guarantee.specs.History.{Session, History, valueOr, put, acknowledging, told}
+use Rattle.guarantee.specs.History.{Session, History, setAt, valueOr, onceOpened, put, acknowledging, told}
+use Rattle.guarantee.proofs.Sessions.{setAt-same, setAt-other}
 use Rattle.guarantee.proofs.Ties.{Sim, Goes, ReplicaTie, OpeningTie, OpenTie, ServersTie, SessionsTie, copyOf, rowOf, storyOf}
 use Rattle.guarantee.proofs.Frames.{replica-frame, session-frame}
 use Rattle.guarantee.proofs.Passing.{neither, not-idle}
@@ -53,14 +54,14 @@ module _ (h : Shape) (x : State) (H : History) (σ : protocol.State) (S : Sim h 
         start = q .start;
         starting = q .starting;
         issues = q .issues;
-        acknowledged = max (q .acknowledged) (cond (q .opened) n 0);
+        acknowledged = max (q .acknowledged) (onceOpened (q .opened) n);
       }
 
-  unopened-kept : SessionsTie (upd (H .sessions) z (after (H .sessions z))) (storyOf σ)
+  unopened-kept : SessionsTie (setAt (H .sessions) z (after (H .sessions z))) (storyOf σ)
   unopened-kept =
-      session-frame (H .sessions) (upd (H .sessions) z (after (H .sessions z))) (storyOf σ) (storyOf σ) (S .sessions) z
-      (λ u d. upd-other (H .sessions) z (after (H .sessions z)) u d) (λ u d. refl)
-      (rw (upd-same (H .sessions) z (after (H .sessions z)))
+      session-frame (H .sessions) (setAt (H .sessions) z (after (H .sessions z))) (storyOf σ) (storyOf σ) (S .sessions) z
+      (λ u d. setAt-other (H .sessions) z (after (H .sessions z)) u d) (λ u d. refl)
+      (rw (setAt-same (H .sessions) z (after (H .sessions z)))
       (record { opened = λ q. absurd (true≢false (sym q ∙ o)); before = λ q. ap after (S .sessions z .before o) }))
 
 module _ (h : Shape) (x : State) (H : History) (σ : protocol.State) (content locks given : List ℕ) (reader s a b : ℕ) (f : Fate)
@@ -88,7 +89,7 @@ module _ (h : Shape) (x : State) (H : History) (σ : protocol.State) (content lo
   within-a = leb-false (h .replicas) a (numbers .0)
 
   M : Message h x s b f given
-  M = message-of h x s b f given (B .range) (B .admitted .fits .given) (B .passed .marks) (B .passed .server) (numbers .1) (B .passed .fate)
+  M = message-of h x s b f given (B .range) (B .covered .fits .given refl) (B .passed .marks) (B .passed .server) (numbers .1) (B .passed .fate)
 
   active-a : activeAt v a ≡ true
   active-a = not-false (activeAt v a) (neither (not (activeAt v a)) (not (activeAt v b)) (B .passed .out) .0)
@@ -163,12 +164,12 @@ module _ (h : Shape) (x : State) (H : History) (σ : protocol.State) (content lo
         room = room e;
         whose = A .whose (suc (σ .mark b)) (omega arith) (more e);
       })
-      (λ n. cond (H .sessions (H .current s) .opened) n 0) (λ n. no-more (H .sessions (H .current s) .opened) n)
+      (λ n. onceOpened (H .sessions (H .current s) .opened) n) (λ n. no-more (H .sessions (H .current s) .opened) n)
     where
       row : OpenTie (h .replicas) v (tableAt s (x .tables)) (rowOf σ z)
       row = S .servers .each s (M .server) .serving p
 
-      no-more : (q : Bool) (n : ℕ) → cond q n 0 ≤ n
+      no-more : (q : Bool) (n : ℕ) → onceOpened q n ≤ n
       no-more true n = omega arith
       no-more false n = omega arith
 
@@ -215,10 +216,10 @@ module _ (h : Shape) (x : State) (H : History) (σ : protocol.State) (content lo
         register = S .register;
         replicas =
             replica-frame (h .replicas) (h .places) (x .media) (H .standing) (copyOf σ) (S .replicas) b (M .replica) (left c)
-            (upd (H .standing) b (standing-after (h .places) x H b (left c) (H .standing a)))
+            (setAt (H .standing) b (standing-after (h .places) x H b (left c) (H .standing a)))
             (copyOf (with-servers (with-replicas σ (σ .promise) mark place) (σ .phase) known recorded))
-            (λ j o. upd-other (H .standing) b (standing-after (h .places) x H b (left c) (H .standing a)) j o) others
-            (rw (upd-same (H .standing) b (standing-after (h .places) x H b (left c) (H .standing a))) tie);
+            (λ j o. setAt-other (H .standing) b (standing-after (h .places) x H b (left c) (H .standing a)) j o) others
+            (rw (setAt-same (H .standing) b (standing-after (h .places) x H b (left c) (H .standing a))) tie);
         servers = servers;
         sessions = unopened-kept h x H σ S (H .current s) n not-opened;
       },

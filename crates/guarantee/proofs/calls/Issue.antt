@@ -7,7 +7,6 @@ use mathlib.Core.List.{List}
 use Prim.Native.Nat.{ℕ, suc, _+_, _*_, _≤_}
 use native.Mathlib.Omega.{arith}
 use lib.ListN.{length, set}
-use lib.Seq.{getD-set-same}
 use lib.Dec.{ltb}
 use borrow.Author.Tests.{ltb-false, eqb-false}
 use Rattle.octets.proofs.Laws.{length-part}
@@ -30,14 +29,14 @@ use Rattle.cluster.specs.declared.Phase.the-variants.{Open}
 use Rattle.cluster.specs.declared.Server.{Server}
 use Rattle.cluster.specs.declared.Request.{Request}
 use Rattle.cluster.specs.declared.Call.the-variants as call
-use Rattle.cluster.specs.State.{State, noServer, serverAt, tableSize, tableAt, withTable}
+use Rattle.cluster.specs.State.{State, serverAt, tableSize, tableAt, withTable}
 use Rattle.cluster.specs.Refusals.{lockLimit, isHeld}
 use Rattle.cluster.specs.Effects.{issuedFields, issuedServer, issueEffect}
 use Rattle.guarantee.specs.History.{History, Logged, issuedAs, told}
 use Rattle.guarantee.proofs.Ties.{rowOf, storyOf, loggedOf, OpenTie, ServerTie, ServersTie, SessionTie, SessionsTie, Sim}
 use Rattle.guarantee.proofs.Frames.{server-frame, alone-in, table-others, table-written, session-frame}
 use Rattle.guarantee.proofs.Passing.{is-open, neither, within}
-use Rattle.guarantee.proofs.Sessions.{told-issued}
+use Rattle.guarantee.proofs.Sessions.{setAt-same, setAt-other, told-issued}
 use Rattle.guarantee.proofs.Facts.{open-lives}
 use Rattle.guarantee.proofs.Played.{with-call, Before, Played}
 
@@ -110,7 +109,7 @@ module _ (h : Shape) (x : State) (H : History) (σ : protocol.State) (content lo
 
   valid : validPlace n (tx .bytes) ≡ true
   valid =
-      let r = B .admitted .fits .request s q refl in
+      let r = B .covered .fits .request s q refl in
       read-back (issuedFields n q) content
       (record {
         id = omega (arith, room, B .range .most);
@@ -121,7 +120,7 @@ module _ (h : Shape) (x : State) (H : History) (σ : protocol.State) (content lo
         header = r .header;
       })
       (ltb-false dataLimit (length content) (neither (ltb dataLimit (length content)) (ltb lockLimit (length locks)) (B .passed .size) .0))
-      (B .admitted .fits .content) .valid
+      (B .covered .fits .content) .valid
 
   -- ---- the rows
 
@@ -201,7 +200,7 @@ module _ (h : Shape) (x : State) (H : History) (σ : protocol.State) (content lo
 
   session : SessionTie (K z n (loggedOf tx) .sessions z) (storyOf τ z)
   session =
-      rw (upd-same (H .sessions) z _, issued-z, log-z)
+      rw (setAt-same (H .sessions) z _, issued-z, log-z)
       (record {
         opened = λ e. told-issued (H .sessions z) (storyOf σ z) tx n next (S .sessions z .opened e) (B .inv .chain .filled z open-z);
         before = λ e. absurd (true≢false (sym open-z ∙ e));
@@ -210,12 +209,7 @@ module _ (h : Shape) (x : State) (H : History) (σ : protocol.State) (content lo
   sessions : SessionsTie (K z n (loggedOf tx) .sessions) (storyOf τ)
   sessions =
       session-frame (H .sessions) (K z n (loggedOf tx) .sessions) (storyOf σ) (storyOf τ) (S .sessions) z
-      (λ u d. upd-other (H .sessions) z _ u d) stories session
-
-  -- the issued record is the one that the server holds
-  held : serverAt (issueEffect x s q content locks .state .records) s .held ≡ tx .bytes
-  unfolding issueEffect
-  held = ap (λ (u : Server). u .held) (getD-set-same (x .records .servers) s w noServer (omega (arith, S .servers .size, B .passed .server)))
+      (λ u d. setAt-other (H .sessions) z _ u d) stories session
 
   pub issue-played : Played h x H σ (with-call (call.Issue s q) content locks given reader)
   unfolding issueEffect told
@@ -228,6 +222,6 @@ module _ (h : Shape) (x : State) (H : History) (σ : protocol.State) (content lo
       register = S .register;
       replicas = S .replicas;
       servers = servers;
-      sessions = rw (held, tie .current (open-lives v serves)) sessions;
+      sessions = rw (tie .current (open-lives v serves)) sessions;
     },
   )

@@ -2,7 +2,7 @@
 -- Assumes nothing.
 use mathlib.Core.Path.{_≡_, refl, ap, _∙_}
 use mathlib.Core.Bool.{Bool, true, false, true≢false}
-use mathlib.Core.List.{List}
+use mathlib.Core.List.{List, [], _∷_}
 use Prim.Native.Nat.{ℕ, _<_}
 use Rattle.fate.specs.declared.Fate.{Fate}
 use Rattle.fate.specs.declared.Fate.the-variants.{Answered, Lost, AnswerLost, Cut}
@@ -15,17 +15,19 @@ use Rattle.cluster.specs.declared.Phase.the-variants.{Opening}
 use Rattle.cluster.specs.declared.Server.{Server}
 use Rattle.cluster.specs.declared.Call.the-variants as call
 use Rattle.cluster.specs.State.{State, idleServer, serverAt, putServer, putRegister}
-use Rattle.cluster.specs.Refusals.{Input, voteMark, cleanAt, sessionDiffers, rows, pass, firstOf}
+use Rattle.cluster.specs.Refusals.{Input, voteMark, cleanAt, sessionDiffers}
+use Rattle.cluster.specs.Replies.{ok}
+use Rattle.cluster.specs.Step.{step}
 use Rattle.cluster.specs.Effects.{Result, openedRegister, openEffect}
 use Rattle.guarantee.specs.History.{History, valueOr, answeredOpen, startingMark, told, next}
 use Rattle.guarantee.proofs.Ties.{rowOf, Sim}
 use Rattle.guarantee.proofs.Frames.{elsewhere, idle-frame}
-use Rattle.guarantee.proofs.Passing.{is-opening}
+use Rattle.guarantee.proofs.Passing.{Passes, step-passes, passes-answered, is-opening}
 use Rattle.guarantee.proofs.Registers.{unchanged}
 use Rattle.guarantee.proofs.Facts.{opening-lives}
 use Rattle.guarantee.proofs.Opening.{Found, found}
 use Rattle.guarantee.proofs.Opened.{unanswered, answered}
-use Rattle.guarantee.proofs.Played.{with-call, Before, Played, step-passes}
+use Rattle.guarantee.proofs.Played.{with-call, Before, Played}
 
 module _ (h : Shape) (x : State) (H : History) (σ : protocol.State) (content locks given : List ℕ) (reader s : ℕ) (f : Fate)
     (B : Before h x H σ (with-call (call.Open s f) content locks given reader)) where
@@ -68,22 +70,19 @@ module _ (h : Shape) (x : State) (H : History) (σ : protocol.State) (content lo
   unfolding next
   reads e =
       let q = ap (λ (r : Result). r .state .records .register) (step-passes h x _ (B .passes)) ∙ e in
-      let r = B .admitted .reads s f refl (rw q (F .is-changed)) in
+      let r = B .covered .reads s f refl (rw q (F .is-changed)) in
       (r .0, F .is-clean reader (r .0) (rw q at (r .1) ∙ current))
 
--- the starting mark
-starts-at : (h : Shape) (x : State) (p : Input) (s : ℕ) → firstOf (rows h x (answeredOpen p s)) ≡ pass
-    → startingMark h x p s ≡ voteMark (h .replicas) (serverAt (x .records) s)
+-- an open answers its mark, if it is answered
+pub open-answers : (h : Shape) (x : State) (p : Input) (s : ℕ) → Passes h x (answeredOpen p s)
+    → step h x (answeredOpen p s) .reply ≡ ok (voteMark (h .replicas) (serverAt (x .records) s) ∷ [])
 unfolding openEffect
-starts-at h x p s e = ap (λ (r : Result). valueOr 0 (r .reply)) (step-passes h x (answeredOpen p s) e)
+open-answers h x p s e = ap (λ (r : Result). r .reply) (step-passes h x (answeredOpen p s) e)
 
--- the call passes under the fate answered too
-passes-answered : (h : Shape) (x : State) (content locks given : List ℕ) (s : ℕ)
-    → sessionDiffers (x .records .register) (serverAt (x .records) s) ≡ false
-    → firstOf (rows h x (record { call = call.Open s AnswerLost; content = content; locks = locks; given = given })) ≡ pass
-    → firstOf (rows h x (record { call = call.Open s Answered; content = content; locks = locks; given = given })) ≡ pass
-unfolding rows firstOf
-passes-answered h x content locks given s e q = rw e q
+-- so that is the starting mark
+starts-at : (h : Shape) (x : State) (p : Input) (s : ℕ) → Passes h x (answeredOpen p s)
+    → startingMark h x p s ≡ voteMark (h .replicas) (serverAt (x .records) s)
+starts-at h x p s e = ap (valueOr 0) (open-answers h x p s e)
 
 module _ (h : Shape) (x : State) (H : History) (σ : protocol.State) (content locks given : List ℕ) (reader s : ℕ) where
   abbrev Plays : Fate → Type 0

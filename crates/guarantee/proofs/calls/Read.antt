@@ -1,6 +1,6 @@
 -- read: nothing is written, and the recorded mark stays. There is no event.
 -- Assumes nothing.
-use mathlib.Core.Path.{_≡_}
+use mathlib.Core.Path.{_≡_, refl}
 use mathlib.Core.Bool.{true}
 use mathlib.Core.List.{List}
 use Prim.Native.Nat.{ℕ}
@@ -30,7 +30,7 @@ module _ (h : Shape) (x : State) (H : History) (σ : protocol.State) (content lo
 
   M : Message h x s i f given
   M =
-      message-of h x s i f given (B .range) (B .admitted .fits .given) (B .passed .marks) (B .passed .server) (B .passed .replica) (B .passed .fate)
+      message-of h x s i f given (B .range) (B .covered .fits .given refl) (B .passed .marks) (B .passed .server) (B .passed .replica) (B .passed .fate)
 
   abbrev v : Server
   v = serverAt (x .records) s

@@ -11,7 +11,6 @@ use borrow.Author.Tests.{eqb-false}
 use Rattle.fate.specs.declared.Fate.{Fate}
 use Rattle.fate.specs.declared.Fate.the-variants.{Answered, Lost, AnswerLost, Cut}
 use Rattle.protocol.specs.State as protocol
-use Rattle.protocol.specs.Columns.{upd}
 use Rattle.protocol.specs.Events.{after-take, Steps}
 use Rattle.protocol.proofs.Columns.{upd-same, upd-other}
 use Rattle.protocol.proofs.Traces.{take-answered}
@@ -23,7 +22,8 @@ use Rattle.cluster.specs.declared.Call.the-variants as call
 use Rattle.cluster.specs.State.{State, idleServer}
 use Rattle.cluster.specs.Refusals.{sessionAtTop}
 use Rattle.cluster.specs.Effects.{withRegisterAndServer, raisedSession, openingServer, takeEffect}
-use Rattle.guarantee.specs.History.{History, withCurrent, told}
+use Rattle.guarantee.specs.History.{History, setAt, withCurrent, told}
+use Rattle.guarantee.proofs.Sessions.{setAt-same, setAt-other}
 use Rattle.guarantee.proofs.Ties.{rowOf, OpeningTie, RegisterTie, Sim}
 use Rattle.guarantee.proofs.Frames.{Elsewhere, server-frame, idle-frame}
 use Rattle.guarantee.proofs.Facts.{at-most-seven, next-alone}
@@ -53,8 +53,8 @@ module _ (h : Shape) (x : State) (H : History) (σ : protocol.State) (content lo
         register = S .register;
         replicas = S .replicas;
         servers =
-            idle-frame _ _ _ _ _ (S .servers) s (B .passed .server) (upd (H .current) s c) (rowOf σ)
-            (record { size = S .servers .tables-size; table = λ t k d. refl; take = λ t d. upd-other (H .current) s c t d; row = λ t k d a. refl });
+            idle-frame _ _ _ _ _ (S .servers) s (B .passed .server) (setAt (H .current) s c) (rowOf σ)
+            (record { size = S .servers .tables-size; table = λ t k d. refl; take = λ t d. setAt-other (H .current) s c t d; row = λ t k d a. refl });
         sessions = S .sessions;
       }
 
@@ -82,12 +82,12 @@ module _ (h : Shape) (x : State) (H : History) (σ : protocol.State) (content lo
           upd-other (σ .handed-closing) z (σ .closing) u d,
         )
 
-    off : (c : ℕ) → Elsewhere (x .records .servers) (x .tables) (x .tables) (H .current) (upd (H .current) s c) (rowOf σ) (rowOf τ) s
+    off : (c : ℕ) → Elsewhere (x .records .servers) (x .tables) (x .tables) (H .current) (setAt (H .current) s c) (rowOf σ) (rowOf τ) s
     off c =
         record {
           size = S .servers .tables-size;
           table = λ t k d. refl;
-          take = λ t d. upd-other (H .current) s c t d;
+          take = λ t d. setAt-other (H .current) s c t d;
           row = λ t k d a. rows _ (next-alone h x H σ S (B .inv) s t k d a);
         }
 
@@ -98,7 +98,7 @@ module _ (h : Shape) (x : State) (H : History) (σ : protocol.State) (content lo
           Q = S .Q;
           register = register;
           replicas = S .replicas;
-          servers = idle-frame _ _ _ _ _ (S .servers) s (B .passed .server) (upd (H .current) s c) (rowOf τ) (off c);
+          servers = idle-frame _ _ _ _ _ (S .servers) s (B .passed .server) (setAt (H .current) s c) (rowOf τ) (off c);
           sessions = S .sessions;
         }
 
@@ -135,11 +135,11 @@ module _ (h : Shape) (x : State) (H : History) (σ : protocol.State) (content lo
           register = register;
           replicas = S .replicas;
           servers =
-              server-frame _ _ _ _ _ (S .servers) s (B .passed .server) w (x .tables) (upd (H .current) s (g .session + 1)) (rowOf τ) (off (g .session + 1))
+              server-frame _ _ _ _ _ (S .servers) s (B .passed .server) w (x .tables) (setAt (H .current) s (g .session + 1)) (rowOf τ) (off (g .session + 1))
               (λ a. rw in-z (next-alone h x H σ S (B .inv) s))
               (record {
                 sized = record { known = refl; dropped = refl; marks = refl };
-                current = λ a. upd-same (H .current) s (g .session + 1);
+                current = λ a. setAt-same (H .current) s (g .session + 1);
                 opening = λ p. subst (λ (u : ℕ). OpeningTie (h .replicas) w (rowOf τ u)) (sym in-z) opening;
                 serving = λ p. let e : _≡_ {A = ℕ} 0 1 = cc in absurd (omega arith);
               });

@@ -1,0 +1,120 @@
+-- A list of 23 calls on three replicas with three places each, in five parts, and what it comes to.
+-- proofs/Example.antt: the replies and logs are those given here, the guarantee speaks of this list, and each of its conclusions says something.
+-- Assumes nothing.
+use mathlib.Core.List.{List, [], _∷_, _++_}
+use Prim.Native.Nat.{ℕ}
+use lib.ListN.{replicate}
+use Rattle.fate.specs.declared.Fate.the-variants.{Answered, Cut}
+use Rattle.fate.specs.declared.Left.the-variants.{New}
+use Rattle.storage.specs.Places.{recordBytes}
+use Rattle.cluster.specs.declared.Shape.{Shape}
+use Rattle.cluster.specs.declared.Request.{Request}
+use Rattle.cluster.specs.declared.Call.{Call}
+use Rattle.cluster.specs.declared.Call.the-variants as call
+use Rattle.cluster.specs.Replies.{Reply, ok, no, silent}
+use Rattle.cluster.specs.Effects.{issuedFields}
+use Rattle.guarantee.specs.History.{Element, Logged}
+
+abbrev pub shape : Shape
+shape = record { replicas = 3; places = 3 }
+
+-- A call without data and locks. Where it opens a session replica 2 is read. No fate here reads the given bytes.
+abbrev pub plain : Call → Element
+plain c = record { input = record { call = c; content = []; locks = []; given = replicate {A = ℕ} 64 0 }; reader = 2 }
+
+-- an issue by server 0 for a client with this mark
+abbrev pub request : ℕ → Request
+request mark = record { mark = mark; client = 0; generation = 0; partition = 0; sequence = 0; header = 9 }
+
+abbrev pub issuing : ℕ → List ℕ → List ℕ → Element
+issuing mark locks content =
+    record { input = record { call = call.Issue 0 (request mark); content = content; locks = locks; given = [] }; reader = 0 }
+
+-- ================ the calls
+
+-- server 0 opens session 1 with all three replicas
+abbrev pub calls-1 : List Element
+calls-1 =
+    plain (call.Take 0 Answered)
+    ∷ plain (call.Prepare 0 0 Answered)
+    ∷ plain (call.Prepare 0 1 Answered)
+    ∷ plain (call.Prepare 0 2 Answered)
+    ∷ plain (call.Open 0 Answered)
+    ∷ []
+
+-- and acknowledges ID 1
+abbrev pub calls-2 : List Element
+calls-2 =
+    issuing 0 [] (0xAB ∷ [])
+    ∷ plain (call.Send 0 0 Answered)
+    ∷ plain (call.Send 0 1 Answered)
+    ∷ plain (call.Send 0 2 Answered)
+    ∷ []
+
+-- ID 2 has lock 7; its write on replica 2 is cut, with the new bytes left. A client that does not know ID 2 asks for the same lock and is declined;
+-- one that knows no more gets ID 3 with other locks (9 shares a place of the table with 7). ID 3 reaches replica 0 only.
+abbrev pub calls-3 : List Element
+calls-3 =
+    issuing 1 (7 ∷ []) []
+    ∷ plain (call.Send 0 0 Answered)
+    ∷ plain (call.Send 0 1 Answered)
+    ∷ plain (call.Send 0 2 (Cut 1 New))
+    ∷ issuing 2 (7 ∷ []) []
+    ∷ issuing 1 (5 ∷ 9 ∷ 9 ∷ []) []
+    ∷ plain (call.Send 0 0 Answered)
+    ∷ []
+
+-- server 1 takes session 2 and finds marks 3 and 2: that is not decided
+abbrev pub calls-4 : List Element
+calls-4 =
+    plain (call.Take 1 Answered)
+    ∷ plain (call.Prepare 1 0 Answered)
+    ∷ plain (call.Prepare 1 2 Answered)
+    ∷ plain (call.Open 1 Answered)
+    ∷ []
+
+-- It copies ID 3 to replica 2 and opens; replica 2 is read, where a sent record stands, then the one whose write was cut, then the copied one.
+-- Server 0, still in session 1, sends ID 3 to replica 1 and acknowledges it.
+abbrev pub calls-5 : List Element
+calls-5 =
+    plain (call.Copy 1 0 2 Answered)
+    ∷ plain (call.Open 1 Answered)
+    ∷ plain (call.Send 0 1 Answered)
+    ∷ []
+
+abbrev pub calls : List Element
+calls = calls-1 ++ (calls-2 ++ (calls-3 ++ (calls-4 ++ calls-5)))
+
+-- ================ what they come to
+
+abbrev value : ℕ → Reply
+value n = ok (n ∷ [])
+
+abbrev pub replies-1 : List Reply
+replies-1 = value 1 ∷ value 0 ∷ value 0 ∷ value 0 ∷ value 0 ∷ []
+
+abbrev pub replies-2 : List Reply
+replies-2 = value 1 ∷ value 0 ∷ value 1 ∷ value 1 ∷ []
+
+abbrev pub replies-3 : List Reply
+replies-3 = value 2 ∷ value 1 ∷ value 2 ∷ silent ∷ no 15 (7 ∷ 2 ∷ []) ∷ value 3 ∷ value 2 ∷ []
+
+abbrev pub replies-4 : List Reply
+replies-4 = value 2 ∷ value 3 ∷ value 2 ∷ no 8 [] ∷ []
+
+abbrev pub replies-5 : List Reply
+replies-5 = value 3 ∷ value 3 ∷ value 3 ∷ []
+
+-- what both logs have under IDs 1 to 3; the records were issued by the calls of these numbers, counted from 0
+abbrev logged : ℕ → ℕ → ℕ → List ℕ → List ℕ → Logged
+logged id call mark locks content =
+    record { bytes = recordBytes (issuedFields id (request mark)) content; transaction = record { call = call; locks = locks; mark = mark } }
+
+abbrev pub first : Logged
+first = logged 1 5 0 [] (0xAB ∷ [])
+
+abbrev pub second : Logged
+second = logged 2 9 1 (7 ∷ []) []
+
+abbrev pub third : Logged
+third = logged 3 14 1 (5 ∷ 9 ∷ 9 ∷ []) []

@@ -133,7 +133,7 @@ asks a b e = both a b e .0
 
 module _ (h : Shape) (x : State) (p : Input) where
   received : (c : Call) → SeenIn c (checksOf h x p c .receiving)
-  unfolding SeenIn checksOf
+  unfolding SeenIn
   received (call.Take s f) = (asks _ _, tt)
   received (call.Prepare s i f) = (asks _ _, (asks _ _, tt))
   received (call.Copy s a b f) = (asks _ _, (asks _ _, (asks _ _, tt)))
@@ -168,7 +168,7 @@ never-no false us n vs e = let z : _≡_ {A = ℕ} 0 1 = cc in omega arith
 
 ordered : (h : Shape) (x : State) (content locks given : List ℕ) (c : Call)
     → follows (map (λ w. w .number) (rowsOf h x (record { call = c; content = content; locks = locks; given = given }))) order ≡ true
-unfolding follows checksOf
+unfolding follows
 ordered h x content locks given (call.Take s f) = refl
 ordered h x content locks given (call.Prepare s i f) = refl
 ordered h x content locks given (call.Copy s a b f) = refl

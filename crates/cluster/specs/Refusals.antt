@@ -334,7 +334,7 @@ requestRows N v q size table locks =
     ∷ lockRow (firstHeld table locks (q .mark))
     ∷ []
 
-unfoldable pub checksOf : Shape → State → Input → Call → Checks
+abbrev pub checksOf : Shape → State → Input → Call → Checks
 checksOf h x p (call.Take s f) =
     record {
       admission = phaseRows h x s onlyIdle;

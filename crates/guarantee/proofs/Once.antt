@@ -30,7 +30,7 @@ use Rattle.guarantee.specs.Guarantee.{InRange, CoveredAll}
 use Rattle.guarantee.proofs.Ties.{Sim}
 use Rattle.guarantee.proofs.Facts.{quorate, opening-lives, open-lives}
 use Rattle.guarantee.proofs.Registers.{unchanged}
-use Rattle.guarantee.proofs.Passing.{Passes, step-passes, Refused, judged, passed, is-opening, is-open}
+use Rattle.guarantee.proofs.Passing.{below-four, Passes, step-passes, Refused, judged, passed, is-opening, is-open}
 use Rattle.guarantee.proofs.Fresh.{fresh-tie}
 use Rattle.guarantee.proofs.Along.{all-calls}
 
@@ -61,10 +61,10 @@ module _ (h : Shape) (x : State) (H : History) (σ : protocol.State) (S : Sim h 
 
   unopened-yet : (f : Fate) → Passes h x (open-call f) → H .sessions (H .current s) ≡ new-session
   unopened-yet f q =
-      let P = passed h x _ q in
+      let P = passed h x (open-call f) q in
       let v = serverAt (x .records) s in
-      let o = is-opening (v .phase) (P .phase) in
-      let T = S .servers .each s (P .server) in
+      let o = is-opening (v .phase) (P 5) in
+      let T = S .servers .each s (below-four s (P 3)) in
       let c = T .current (opening-lives v o) in
       ap (H .sessions) c ∙ S .sessions (v .session) .before (go (v .session) (T .opening o .phase) (σ .opened (v .session)) refl)
     where
@@ -87,10 +87,10 @@ module _ (h : Shape) (x : State) (H : History) (σ : protocol.State) (S : Sim h 
 
   unissued : (q : Request) → Passes h x (issue-call q) → H .sessions (H .current s) .issues (serverAt (x .records) s .issued + 1) ≡ none
   unissued r q =
-      let P = passed h x _ q in
+      let P = passed h x (issue-call r) q in
       let v = serverAt (x .records) s in
-      let o = is-open (v .phase) (P .phase) in
-      let T = S .servers .each s (P .server) in
+      let o = is-open (v .phase) (P 5) in
+      let T = S .servers .each s (below-four s (P 3)) in
       let c = T .current (open-lives v o) in
       ap (λ (t : ℕ). H .sessions t .issues (v .issued + 1)) c
       ∙ S .sessions (v .session) .opened (I .numbers .live (v .session) (T .serving o .phase)) .beyond (v .issued + 1) (omega (arith, T .serving o .issued))

@@ -37,7 +37,7 @@ use Rattle.protocol.proofs.Invariant.{Inv}
 module _ (h : Shape) (x : State) (H : History) (σ : protocol.State) (S : Sim h x H σ) (I : Inv σ) (range : InRange h) (s : ℕ) (l : s < 4)
     (opens : serverAt (x .records) s .phase ≡ Opening) (F : Found h x σ s)
     (same : sessionDiffers (x .records .register) (serverAt (x .records) s) ≡ false)
-    (a : ℕ) (la : a < h .replicas) (ca : cleanAt (h .replicas) (serverAt (x .records) s) a ≡ true) where
+    (a : ℕ) (la : a < h .replicas) (ca : cleanAt (serverAt (x .records) s) (voteMark (h .replicas) (serverAt (x .records) s)) a ≡ true) where
   abbrev R : ℕ
   R = h .replicas
 
@@ -59,7 +59,7 @@ module _ (h : Shape) (x : State) (H : History) (σ : protocol.State) (S : Sim h 
   can : Can-open σ z D a
   can = F .can same a la ca
 
-  register : RegisterTie R (openedRegister R g v) (τ .session) (τ .unresolved) (τ .closing) (τ .opened)
+  register : RegisterTie R (openedRegister R g v (voteMark R v)) (τ .session) (τ .unresolved) (τ .closing) (τ .opened)
   register =
       opened-tie R g v (F .room) (σ .session) (σ .unresolved) (σ .closing) (σ .opened) (S .register) (clean σ z D) (F .cleans)
 
@@ -88,7 +88,7 @@ module _ (h : Shape) (x : State) (H : History) (σ : protocol.State) (S : Sim h 
       (record { size = S .servers .tables-size; table = λ t k d. refl; take = λ t d. refl; row = λ t k d b. other-rows _ (alone t k d b) })
 
   abbrev w : Server
-  w = openedServer R v
+  w = openedServer R v (voteMark R v)
 
   abbrev table : List ℕ
   table = replicate tableSize D
@@ -98,12 +98,12 @@ module _ (h : Shape) (x : State) (H : History) (σ : protocol.State) (S : Sim h 
 
   member : (i : ℕ) → i < R → memberAt w i ≡ clean σ z D i
   unfolding openedServer
-  member i k = upTo-at (cleanAt R v) (replicate 7 false) R i false k seven ∙ F .cleans i k
+  member i k = upTo-at (cleanAt v (voteMark R v)) (replicate 7 false) R i false k seven ∙ F .cleans i k
 
   recorded : (i : ℕ) → i < R → clean σ z D i ≡ true → markAt w i ≡ σ .recorded z i
   unfolding openedServer
   recorded i k e =
-      upTo-at (λ i. cond (cleanAt R v i) D 0) (replicate 7 0) R i 0 k seven ∙ rw (F .cleans i k ∙ e) (sym (clean-is σ z D i e .1))
+      upTo-at (λ i. cond (cleanAt v (voteMark R v) i) D 0) (replicate 7 0) R i 0 k seven ∙ rw (F .cleans i k ∙ e) (sym (clean-is σ z D i e .1))
 
   serving : OpenTie R w table (rowOf τ z)
   unfolding openedServer
@@ -146,9 +146,9 @@ module _ (h : Shape) (x : State) (H : History) (σ : protocol.State) (S : Sim h 
       (record {
         sized =
             record {
-              known = upTo-length (cleanAt R v) (replicate 7 false) R;
+              known = upTo-length (cleanAt v (voteMark R v)) (replicate 7 false) R;
               dropped = refl;
-              marks = upTo-length (λ i. cond (cleanAt R v i) D 0) (replicate 7 0) R;
+              marks = upTo-length (λ i. cond (cleanAt v (voteMark R v) i) D 0) (replicate 7 0) R;
             };
         current = λ b. S .servers .each s l .current awake;
         opening = λ p. let e : _≡_ {A = ℕ} 0 1 = cc in absurd (omega arith);
@@ -202,12 +202,12 @@ module _ (h : Shape) (x : State) (H : History) (σ : protocol.State) (S : Sim h 
 
   -- ---- the two
 
-  pub unanswered : Sim h (record { records = putServer (putRegister (x .records) (openedRegister R g v)) s idleServer; media = x .media; tables = x .tables })
+  pub unanswered : Sim h (record { records = putServer (putRegister (x .records) (openedRegister R g v (voteMark R v))) s idleServer; media = x .media; tables = x .tables })
       (openedAt H z D (stands (h .places) x H a)) τ
   unanswered = record { R = S .R; Q = S .Q; register = register; replicas = S .replicas; servers = idle; sessions = sessions }
 
   pub answered :
       Sim h
-      (record { records = putServer (putRegister (x .records) (openedRegister R g v)) s w; media = x .media; tables = withTable s table (x .tables) })
+      (record { records = putServer (putRegister (x .records) (openedRegister R g v (voteMark R v))) s w; media = x .media; tables = withTable s table (x .tables) })
       (openedAt H z D (stands (h .places) x H a)) τ
   answered = record { R = S .R; Q = S .Q; register = register; replicas = S .replicas; servers = servers; sessions = sessions }

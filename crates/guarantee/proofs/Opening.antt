@@ -28,7 +28,7 @@ use Rattle.cluster.specs.Effects.{openedRegister}
 use Rattle.guarantee.specs.Registers.{changed}
 use Rattle.guarantee.specs.History.{History}
 use Rattle.guarantee.proofs.Ties.{rowOf, OpeningTie, Sim}
-use Rattle.guarantee.proofs.Passing.{is-opening}
+use Rattle.guarantee.proofs.Passing.{below-four, is-opening}
 use Rattle.guarantee.proofs.Counts.{tally-is, decided-tie}
 use Rattle.guarantee.proofs.Registers.{changes, entry-set, entry-kept}
 use Rattle.guarantee.proofs.Facts.{at-most-seven}
@@ -41,15 +41,15 @@ pub record Found (h : Shape) (x : State) (σ : protocol.State) (s : ℕ) : Type 
   pub room : h .replicas ≤ length (x .records .register .entries)
   -- the clean replicas are the protocol's
   pub cleans : let v = serverAt (x .records) s in
-      (i : ℕ) → i < h .replicas → cleanAt (h .replicas) v i ≡ clean σ (v .session) (voteMark (h .replicas) v) i
-  pub is-changed : let g = x .records .register in changed g (openedRegister (h .replicas) g (serverAt (x .records) s)) ≡ true
+      (i : ℕ) → i < h .replicas → cleanAt v (voteMark (h .replicas) v) i ≡ clean σ (v .session) (voteMark (h .replicas) v) i
+  pub is-changed : let g = x .records .register in changed g (openedRegister (h .replicas) g (serverAt (x .records) s) (voteMark (h .replicas) (serverAt (x .records) s))) ≡ true
   -- a replica whose entry the open sets to the session is clean
   pub is-clean : let v = serverAt (x .records) s in
-      (a : ℕ) → a < h .replicas → entryAt (openedRegister (h .replicas) (x .records .register) v .entries) a .session ≡ v .session
-      → cleanAt (h .replicas) v a ≡ true
+      (a : ℕ) → a < h .replicas → entryAt (openedRegister (h .replicas) (x .records .register) v (voteMark (h .replicas) v) .entries) a .session ≡ v .session
+      → cleanAt v (voteMark (h .replicas) v) a ≡ true
   -- and whichever of them is read, the session may be opened, where the register has its number
   pub can : let v = serverAt (x .records) s in
-      sessionDiffers (x .records .register) v ≡ false → (a : ℕ) → a < h .replicas → cleanAt (h .replicas) v a ≡ true
+      sessionDiffers (x .records .register) v ≡ false → (a : ℕ) → a < h .replicas → cleanAt v (voteMark (h .replicas) v) a ≡ true
       → Can-open σ (v .session) (voteMark (h .replicas) v) a
 
 -- equal marks are equal to D alike
@@ -78,7 +78,7 @@ module _ (h : Shape) (x : State) (H : History) (σ : protocol.State) (content lo
   D = voteMark R v
 
   row : OpeningTie R v (rowOf σ z)
-  row = S .servers .each s (B .passed .server) .opening (is-opening (v .phase) (B .passed .phase))
+  row = S .servers .each s (below-four s (B .passed 3)) .opening (is-opening (v .phase) (B .passed 5))
 
   new : σ .opened z ≡ false
   new = go (σ .opened z) refl
@@ -88,7 +88,7 @@ module _ (h : Shape) (x : State) (H : History) (σ : protocol.State) (content lo
       go false e = e
 
   -- the clean replicas
-  cleans : (i : ℕ) → i < R → cleanAt R v i ≡ clean σ z D i
+  cleans : (i : ℕ) → i < R → cleanAt v (voteMark R v) i ≡ clean σ z D i
   cleans i l = same-clean (activeAt v i) (σ .known z i) (markAt v i) (σ .recorded z i) D (row .known i l) (row .recorded i l)
 
   quorate : σ .Q ≤ tally (flagged? (clean σ z D)) (σ .R)
@@ -96,8 +96,8 @@ module _ (h : Shape) (x : State) (H : History) (σ : protocol.State) (content lo
       rw (S .R, S .Q)
       (omega (
         arith,
-        ltb-false (count (cleanAt R v) R) (quorum R) (B .passed .clean),
-        tally-is (cleanAt R v) (flagged? (clean σ z D)) R (λ j l e. sym (cleans j l) ∙ e) (λ j l e. cleans j l ∙ e),
+        ltb-false (count (cleanAt v (voteMark R v)) R) (quorum R) (B .passed 9),
+        tally-is (cleanAt v (voteMark R v)) (flagged? (clean σ z D)) R (λ j l e. sym (cleans j l) ∙ e) (λ j l e. cleans j l ∙ e),
       ))
 
   -- no entry was set to z before
@@ -107,29 +107,29 @@ module _ (h : Shape) (x : State) (H : History) (σ : protocol.State) (content lo
   room : R ≤ length (g .entries)
   room = omega (arith, at-most-seven h (B .range), S .register .size)
 
-  is-changed : changed g (openedRegister R g v) ≡ true
+  is-changed : changed g (openedRegister R g v (voteMark R v)) ≡ true
   is-changed =
       let c = count-some (flagged? (clean σ z D)) (σ .R) (omega (arith, quorate, B .inv .quorum)) in
       let l : c .0 < R = omega (arith, c .1, S .R) in
-      changes g (openedRegister R g v) (c .0) (omega (arith, at-most-seven h (B .range)))
+      changes g (openedRegister R g v (voteMark R v)) (c .0) (omega (arith, at-most-seven h (B .range)))
       (λ e. other-entry (c .0) l (e ∙ entry-set R g v room (c .0) l (cleans (c .0) l ∙ c .2)))
 
   -- a replica whose entry the open sets to the session is clean
-  is-clean : (a : ℕ) → a < R → entryAt (openedRegister R g v .entries) a .session ≡ z → cleanAt R v a ≡ true
-  is-clean a l e = go (cleanAt R v a) refl
+  is-clean : (a : ℕ) → a < R → entryAt (openedRegister R g v (voteMark R v) .entries) a .session ≡ z → cleanAt v (voteMark R v) a ≡ true
+  is-clean a l e = go (cleanAt v (voteMark R v) a) refl
     where
-      go : (b : Bool) → cleanAt R v a ≡ b → cleanAt R v a ≡ true
+      go : (b : Bool) → cleanAt v (voteMark R v) a ≡ b → cleanAt v (voteMark R v) a ≡ true
       go true q = q
       go false q = absurd (other-entry a l (sym (entry-kept R g v room a l q) ∙ e))
 
-  can : sessionDiffers g v ≡ false → (a : ℕ) → a < R → cleanAt R v a ≡ true → Can-open σ z D a
+  can : sessionDiffers g v ≡ false → (a : ℕ) → a < R → cleanAt v (voteMark R v) a ≡ true → Can-open σ z D a
   can same a la ca =
       record {
         phase = row .phase;
         session = sym (S .register .session) ∙ eqb-true (g .session) z (not-false (eqb (g .session) z) same);
         decided =
             decided-tie R σ z (S .R) (S .Q) (activeAt v) (markAt v) (row .known) (row .recorded)
-            (not-false (decided (activeAt v) (markAt v) R) (B .passed .undecided));
+            (not-false (decided (activeAt v) (markAt v) R) (B .passed 8));
         quorum = quorate;
         clean-a = sym (cleans a la) ∙ ca;
       }

@@ -17,8 +17,8 @@ use Rattle.fate.specs.declared.Fate.the-variants.{Answered}
 use Rattle.fate.specs.Fates.{Write, allOf, after}
 use Rattle.fate.specs.Numbered.{effectOf}
 use Rattle.storage.specs.declared.slot.Slot.{Slot}
-use Rattle.storage.specs.declared.operation.Closing.{Closing}
-use Rattle.storage.specs.declared.operation.Closing.the-variants.{Unresolved, Mark}
+use Rattle.storage.specs.declared.operation.Target.{Target}
+use Rattle.storage.specs.declared.operation.Target.the-variants.{Whole, Mark}
 use Rattle.storage.specs.Places.{validPlace}
 use Rattle.storage.specs.Slots.{storedSlot, FittingSlot}
 use Rattle.storage.specs.Log.{logOf, markOf, Sound}
@@ -78,8 +78,8 @@ unfolding after
 after-answered g ws m = refl
 
 -- what a complete truncation leaves is the log up to the closing mark
-closed-part : (N : ℕ) (m : List ℕ) (to : Closing) → closedBy to (logOf N m) ≡ take (closedMark to (markOf N m)) (logOf N m)
-closed-part N m Unresolved = sym (ap (λ (n : ℕ). take n (logOf N m)) (mark-is N m) ∙ take-length (logOf N m))
+closed-part : (N : ℕ) (m : List ℕ) (to : Target) → closedBy to (logOf N m) ≡ take (closedMark to (markOf N m)) (logOf N m)
+closed-part N m Whole = sym (ap (λ (n : ℕ). take n (logOf N m)) (mark-is N m) ∙ take-length (logOf N m))
 closed-part N m (Mark t) = go (decLe t (markOf N m))
   where
     go : Dec (t ≤ markOf N m) → take t (logOf N m) ≡ take (min t (markOf N m)) (logOf N m)
@@ -89,12 +89,12 @@ closed-part N m (Mark t) = go (decLe t (markOf N m))
         take-all t (logOf N m) (omega (arith, mark-is N m))
         ∙ sym (ap (λ (n : ℕ). take n (logOf N m)) (e ∙ mark-is N m) ∙ take-length (logOf N m))
 
-pub closed-le : (to : Closing) (n : ℕ) → closedMark to n ≤ n
-closed-le Unresolved n = omega arith
+pub closed-le : (to : Target) (n : ℕ) → closedMark to n ≤ n
+closed-le Whole n = omega arith
 closed-le (Mark t) n = omega arith
 
 module _ (N : ℕ) (f : Fate) (g m : List ℕ) (standing : ℕ → Option Transaction) (c : Copy) (T : ReplicaTie N m standing c) (h : Harmless N f g)
-    (p : ℕ) (to : Closing) (le : storedSlot m .promise ≤ p) (w : p < 2 ^ 64) where
+    (p : ℕ) (to : Target) (le : storedSlot m .promise ≤ p) (w : p < 2 ^ 64) where
   abbrev prepared : List ℕ
   prepared = after f g (prepareWrites N p to m) m
 

@@ -24,7 +24,7 @@ use Rattle.cluster.specs.declared.Server.{Server}
 use Rattle.cluster.specs.declared.Call.{Call}
 use Rattle.cluster.specs.declared.Call.the-variants as call
 use Rattle.cluster.specs.State.{State, serverAt, entryAt}
-use Rattle.cluster.specs.Refusals.{Input, cleanAt, sessionDiffers}
+use Rattle.cluster.specs.Refusals.{Input, voteMark, cleanAt, sessionDiffers}
 use Rattle.cluster.specs.Effects.{Result, arrives, openedRegister, openEffect}
 use Rattle.cluster.specs.Step.{step}
 use Rattle.guarantee.specs.Registers.{changed}
@@ -32,7 +32,7 @@ use Rattle.guarantee.specs.History.{Element, History, Moment, next, begi
 use Rattle.guarantee.specs.Guarantee.{InRange, Fits, Covered, CoveredAll}
 use Rattle.guarantee.proofs.Ties.{Sim}
 use Rattle.guarantee.proofs.Facts.{at-most-seven, quorate, opening-lives}
-use Rattle.guarantee.proofs.Passing.{Passes, step-passes, Refused, judged, passed, is-opening}
+use Rattle.guarantee.proofs.Passing.{below-four, Passes, step-passes, Refused, judged, passed, is-opening}
 use Rattle.guarantee.proofs.Registers.{unchanged, entry-set}
 use Rattle.guarantee.proofs.Along.{all-calls}
 use Rattle.guarantee.proofs.Fresh.{fresh-tie}
@@ -60,8 +60,8 @@ after h x p = step h x p .state .records .register
 -- an open sets the register's entries, or leaves the register
 opened-or-not : (h : Shape) (x : State) (s : ℕ) (f : Fate) (b : Bool)
     → (arrives f && not (sessionDiffers (x .records .register) (serverAt (x .records) s))) ≡ b
-    → openEffect (h .replicas) x s f .state .records .register
-    ≡ cond b (openedRegister (h .replicas) (x .records .register) (serverAt (x .records) s)) (x .records .register)
+    → openEffect (h .replicas) (voteMark (h .replicas) (serverAt (x .records) s)) x s f .state .records .register
+    ≡ cond b (openedRegister (h .replicas) (x .records .register) (serverAt (x .records) s) (voteMark (h .replicas) (serverAt (x .records) s))) (x .records .register)
 unfolding openEffect
 opened-or-not h x s f b e = rw e
 
@@ -90,11 +90,11 @@ module _ (h : Shape) (range : InRange h) (x : State) (H : History) (σ : protoco
     passes q false e = (0, same-register p (ap (λ (r : Result). r .state .records .register) (step-passes h x p q) ∙ opened-or-not h x s f false e))
     passes q true e =
         let P = passed h x p q in
-        let k : after h x p ≡ openedRegister (h .replicas) g v =
+        let k : after h x p ≡ openedRegister (h .replicas) g v (voteMark (h .replicas) v) =
         ap (λ (r : Result). r .state .records .register) (step-passes h x p q) ∙ opened-or-not h x s f true e in
-        let w = count-some (cleanAt (h .replicas) v) (h .replicas)
-        (omega (arith, quorate h range .0, ltb-false (count (cleanAt (h .replicas) v) (h .replicas)) (quorum (h .replicas)) (P .clean))) in
-        let c = S .servers .each s (P .server) .current (opening-lives v (is-opening (v .phase) (P .phase))) in
+        let w = count-some (cleanAt v (voteMark (h .replicas) v)) (h .replicas)
+        (omega (arith, quorate h range .0, ltb-false (count (cleanAt v (voteMark (h .replicas) v)) (h .replicas)) (quorum (h .replicas)) (P 9))) in
+        let c = S .servers .each s (below-four s (P 3)) .current (opening-lives v (is-opening (v .phase) (P 5))) in
         let room : h .replicas ≤ length (g .entries) = omega (arith, at-most-seven h range, S .register .size) in (
           w .0,
           λ t u r d.

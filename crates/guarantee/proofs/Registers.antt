@@ -10,8 +10,8 @@ use borrow.Author.Tests.{eqb-true, eq-eqb}
 use Rattle.base.specs.Below.{all}
 use Rattle.base.proofs.Tests.{both}
 use Rattle.base.proofs.Below.{all-at, upTo-length, upTo-at}
-use Rattle.storage.specs.declared.operation.Closing.{Closing}
-use Rattle.storage.specs.declared.operation.Closing.the-variants.{Unresolved, Mark}
+use Rattle.cluster.specs.declared.Closing.{Closing}
+use Rattle.cluster.specs.declared.Closing.the-variants.{Unresolved, Mark}
 use Rattle.protocol.specs.Columns.{upd}
 use Rattle.protocol.proofs.Columns.{upd-same, upd-elim}
 use Rattle.cluster.specs.declared.Entry.{Entry}
@@ -64,17 +64,17 @@ changes g k i l d = go _ refl
 
 module _ (R : ℕ) (g : Register) (v : Server) (le : R ≤ length (g .entries)) where
   pub entry-after : (i : ℕ) → i < R
-      → entryAt (openedRegister R g v .entries) i ≡ entryAfter (entryAt (g .entries) i) (cleanAt R v i) (v .session) (voteMark R v)
+      → entryAt (openedRegister R g v (voteMark R v) .entries) i ≡ entryAfter (entryAt (g .entries) i) (cleanAt v (voteMark R v) i) (v .session) (voteMark R v)
   unfolding openedRegister
   entry-after i l =
-      upTo-at (λ i. entryAfter (entryAt (g .entries) i) (cleanAt R v i) (v .session) (voteMark R v)) (g .entries) R i freshEntry l le
+      upTo-at (λ i. entryAfter (entryAt (g .entries) i) (cleanAt v (voteMark R v) i) (v .session) (voteMark R v)) (g .entries) R i freshEntry l le
 
   -- the entries of the clean replicas get the session; no other entry does
-  pub entry-set : (i : ℕ) → i < R → cleanAt R v i ≡ true → entryAt (openedRegister R g v .entries) i .session ≡ v .session
+  pub entry-set : (i : ℕ) → i < R → cleanAt v (voteMark R v) i ≡ true → entryAt (openedRegister R g v (voteMark R v) .entries) i .session ≡ v .session
   entry-set i l e = ap (λ (x : Entry). x .session) (entry-after i l) ∙ rw e
 
-  pub entry-kept : (i : ℕ) → i < R → cleanAt R v i ≡ false
-      → entryAt (openedRegister R g v .entries) i .session ≡ entryAt (g .entries) i .session
+  pub entry-kept : (i : ℕ) → i < R → cleanAt v (voteMark R v) i ≡ false
+      → entryAt (openedRegister R g v (voteMark R v) .entries) i .session ≡ entryAt (g .entries) i .session
   entry-kept i l e = ap (λ (x : Entry). x .session) (entry-after i l) ∙ rw e (kept (entryAt (g .entries) i .closing))
     where
       kept : (c : Closing) → closedAt (entryAt (g .entries) i) (voteMark R v) c .session ≡ entryAt (g .entries) i .session
@@ -84,7 +84,7 @@ module _ (R : ℕ) (g : Register) (v : Server) (le : R ≤ length (g .entries)) 
   -- ---- its tie: the clean ones are unresolved, and the others that were get the mark
 
   module _ (session′ : ℕ) (unresolved′ : ℕ → Bool) (closing′ : ℕ → ℕ) (opened : ℕ → Bool)
-      (T : RegisterTie R g session′ unresolved′ closing′ opened) (clean : ℕ → Bool) (same : (i : ℕ) → i < R → cleanAt R v i ≡ clean i) where
+      (T : RegisterTie R g session′ unresolved′ closing′ opened) (clean : ℕ → Bool) (same : (i : ℕ) → i < R → cleanAt v (voteMark R v) i ≡ clean i) where
     abbrev after : ℕ → Bool → Entry
     after i b = entryAfter (entryAt (g .entries) i) b (v .session) (voteMark R v)
 
@@ -120,14 +120,14 @@ module _ (R : ℕ) (g : Register) (v : Server) (le : R ≤ length (g .entries)) 
         go Unresolved = old
         go (Mark k) = old
 
-    pub opened-tie : RegisterTie R (openedRegister R g v) session′ clean (λ i. cond (unresolved′ i) (voteMark R v) (closing′ i)) (upd opened (v .session) true)
+    pub opened-tie : RegisterTie R (openedRegister R g v (voteMark R v)) session′ clean (λ i. cond (unresolved′ i) (voteMark R v) (closing′ i)) (upd opened (v .session) true)
     unfolding openedRegister
     opened-tie =
         record {
           session = T .session;
           fits = T .fits;
-          size = upTo-length (λ i. entryAfter (entryAt (g .entries) i) (cleanAt R v i) (v .session) (voteMark R v)) (g .entries) R ∙ T .size;
-          unresolved = λ i l. rw (entry-after i l) (unresolved i l (cleanAt R v i) ∙ same i l);
-          closing = λ i c l e. closing i c l (cleanAt R v i) (rw (entry-after i l) at e);
-          entry = λ i l. rw (entry-after i l) (entry i l (cleanAt R v i));
+          size = upTo-length (λ i. entryAfter (entryAt (g .entries) i) (cleanAt v (voteMark R v) i) (v .session) (voteMark R v)) (g .entries) R ∙ T .size;
+          unresolved = λ i l. rw (entry-after i l) (unresolved i l (cleanAt v (voteMark R v) i) ∙ same i l);
+          closing = λ i c l e. closing i c l (cleanAt v (voteMark R v) i) (rw (entry-after i l) at e);
+          entry = λ i l. rw (entry-after i l) (entry i l (cleanAt v (voteMark R v) i));
         }

@@ -18,7 +18,7 @@ use Rattle.quorum.specs.Vote.{backed, majorityMark, decided}
 use Rattle.locks.specs.Locks.{markedAll, markedAt, placeOf, estimateOf, firstHeld}
 use Rattle.cluster.specs.State.{freshMedia, fresh}
 use Rattle.cluster.specs.Replies.{Reply}
-use Rattle.cluster.specs.Refusals.{outside, entriesFit, serverFits, markAbove, noSlot, promiseAbove, promiseDiffers, markDiffers, rows, firstOf}
+use Rattle.cluster.specs.Refusals.{outside, entriesFit, serverFits, markAbove, noSlot, promiseAbove, promiseDiffers, markDiffers, replicasFit, firstOf}
 use Rattle.cluster.specs.Effects.{prepareEffect, appendEffect, takeEffect, openedRegister, openedServer, openEffect, issueEffect}
 use Rattle.cluster.specs.Step.{unless, step}
 use Rattle.guarantee.specs.Registers.{changed}
@@ -29,8 +29,8 @@ use Rattle.guarantee_example.proofs.States.{state-1, state-2, state-3, 
 -- to unfold this is to unfold the calls down to the CRC
 unfolded : ℕ
 unfolding
-    outline changed step rows firstOf unless fresh freshMedia freshMedium
-    outside markAbove entriesFit serverFits all upTo count highest
+    outline changed step firstOf unless fresh freshMedia freshMedium
+    outside replicasFit markAbove entriesFit serverFits all upTo count highest
     takeEffect prepareEffect openEffect openedRegister openedServer issueEffect appendEffect
     noSlot promiseAbove promiseDiffers markDiffers backed majorityMark decided firstHeld markedAll markedAt placeOf estimateOf
     prepareWrites promising closing wipes wiped after allOf cutAt leave writeAt passes passesAsPlace

@@ -4,7 +4,7 @@ use mathlib.Core.Bool.{Bool, true, false}
 use mathlib.Core.List.{List, [], _∷_, _++_}
 use Prim.Native.Nat.{ℕ, _*_}
 use lib.ListN.{replicate}
-use Rattle.storage.specs.declared.operation.Closing.the-variants.{Unresolved}
+use Rattle.cluster.specs.declared.Closing.the-variants.{Unresolved}
 use Rattle.locks.specs.Locks.{markedAll}
 use Rattle.cluster.specs.declared.Entry.{Entry}
 use Rattle.cluster.specs.declared.Register.{Register}

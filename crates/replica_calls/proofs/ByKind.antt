@@ -38,14 +38,13 @@ module _ (h : Shape) (x : State) (s i : ℕ) (f : Fate) (given : List ℕ) where
       ≡ rest (replicaRows h x s (noReplicaAt (h .replicas) i) (phasesOf k)
       ++ (checksOf h x (inputOf (callOf k s i f) given) (callOf k s i f) .sending ++ checksOf h x (inputOf (callOf k s i f) given) (callOf k s i f) .receiving))
       x (effect h x (inputOf (callOf k s i f) given) (callOf k s i f))
-  unfolding step checksOf
+  unfolding step
   whole Prepare = refl
   whole Trim = refl
   whole Note = refl
   whole Send = refl
 
   pub sending-is : (k : Kind) → checksOf h x (inputOf (callOf k s i f) given) (callOf k s i f) .sending ≡ sendingRows k h v i f given
-  unfolding checksOf
   sending-is Prepare = refl
   sending-is Trim = refl
   sending-is Note = refl
@@ -57,7 +56,7 @@ module _ (h : Shape) (x : State) (s i : ℕ) (f : Fate) (given : List ℕ) where
   prepared m = rw (and-false (answered f))
 
   pub sent-is : (k : Kind) → operated h x s i (operationOf k (h .replicas) v i) (v .held) f given ≡ onceSent h x (inputOf (callOf k s i f) given)
-  unfolding checksOf operationEffect prepareEffect trimEffect noteEffect appendEffect
+  unfolding operationEffect prepareEffect trimEffect noteEffect appendEffect
   sent-is Prepare =
       let m = mediumAt (h .places) i (x .media) in
       rw (prepared m, or-false (noSlot m || promiseAbove (v .session) m))

@@ -31,15 +31,14 @@ module _ (h : Shape) (x : State) (s a b : ℕ) (f : Fate) (given : List ℕ) whe
 
   pub copy-whole : step h x p ≡ rest (replicaRows h x s (notTwo (h .replicas) a b) openingOrOpen
       ++ (checksOf h x p (call.Copy s a b f) .sending ++ checksOf h x p (call.Copy s a b f) .receiving)) x (effect h x p (call.Copy s a b f))
-  unfolding step checksOf
+  unfolding step
   copy-whole = refl
 
   copy-sending : checksOf h x p (call.Copy s a b f) .sending ≡ copyRows h (serverAt (x .records) s) (x .media) a b f given
-  unfolding checksOf
   copy-sending = refl
 
   copy-sent : operated h x s b (op.Append (markAt (serverAt (x .records) s) b)) (placeAt (markAt (serverAt (x .records) s) b + 1) (mediumAt (h .places) a (x .media))) f given ≡ onceSent h x p
-  unfolding checksOf operationEffect appendEffect
+  unfolding operationEffect appendEffect
   copy-sent = refl
 
 module _ (h : Shape) (r : Records) (media tables : List ℕ) (s a b : ℕ) (f : Fate) (given : List ℕ) (v : Server) (q : serverAt r s ≡ v)

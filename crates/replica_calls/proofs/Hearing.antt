@@ -153,7 +153,7 @@ pub read-heard :
     → o ≡ readHeard (h .places) (serverAt r s .session) (markAt (serverAt r s) i) f (lent at end media)
     → resultOf (readBy r s i (placeAt n (mediumAt (h .places) i media)) o) media tables
     ≡ onceSent h (stateOf r media tables) (inputOf (call.Read s i n f) given)
-unfolding unless firstOf checksOf readBy readEffect readHeard
+unfolding unless firstOf readBy readEffect readHeard
 read-heard h r media tables s i n f given at end w o t =
     let v = serverAt r s in
     let m = mediumAt (h .places) i media in

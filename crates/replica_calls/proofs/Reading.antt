@@ -17,9 +17,8 @@ module _ (h : Shape) (x : State) (s i n : ℕ) (f : Fate) (given : List ℕ) whe
 
   pub read-whole : step h x p ≡ rest (replicaRows h x s (noReplicaAt (h .replicas) i) onlyOpen
       ++ (checksOf h x p (call.Read s i n f) .sending ++ checksOf h x p (call.Read s i n f) .receiving)) x (effect h x p (call.Read s i n f))
-  unfolding step checksOf
+  unfolding step
   read-whole = refl
 
   pub read-sending : checksOf h x p (call.Read s i n f) .sending ≡ readRows h (serverAt (x .records) s) i n f given
-  unfolding checksOf
   read-sending = refl

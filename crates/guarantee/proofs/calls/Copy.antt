@@ -36,7 +36,7 @@ use Rattle.guarantee.specs.History.{Session, History, setAt, valueOr, on
 use Rattle.guarantee.proofs.Sessions.{setAt-same, setAt-other}
 use Rattle.guarantee.proofs.Ties.{Sim, Goes, ReplicaTie, OpeningTie, OpenTie, ServersTie, SessionsTie, copyOf, rowOf, storyOf}
 use Rattle.guarantee.proofs.Frames.{replica-frame, session-frame}
-use Rattle.guarantee.proofs.Passing.{neither, not-idle}
+use Rattle.guarantee.proofs.Passing.{below-four, neither, not-idle}
 use Rattle.guarantee.proofs.Facts.{opening-lives, valid-place}
 use Rattle.guarantee.proofs.Operations.{Grown}
 use Rattle.guarantee.proofs.Messages.{Message, message-of, agrees, accepts, is-answered, active-member}
@@ -83,22 +83,22 @@ module _ (h : Shape) (x : State) (H : History) (σ : protocol.State) (content lo
 
   numbers : (leb (h .replicas) a ≡ false) × (leb (h .replicas) b ≡ false)
   numbers =
-      neither (leb (h .replicas) a) (leb (h .replicas) b) (neither (leb (h .replicas) a || leb (h .replicas) b) (eqb a b) (B .passed .replica) .0)
+      neither (leb (h .replicas) a) (leb (h .replicas) b) (neither (leb (h .replicas) a || leb (h .replicas) b) (eqb a b) (B .passed 4) .0)
 
   within-a : a < h .replicas
   within-a = leb-false (h .replicas) a (numbers .0)
 
   M : Message h x s b f given
-  M = message-of h x s b f given (B .range) (B .covered .fits .given refl) (B .passed .marks) (B .passed .server) (numbers .1) (B .passed .fate)
+  M = message-of h x s b f given (B .range) (B .covered .fits .given refl) (B .passed 2) (below-four s (B .passed 3)) (numbers .1) (B .passed 6)
 
   active-a : activeAt v a ≡ true
-  active-a = not-false (activeAt v a) (neither (not (activeAt v a)) (not (activeAt v b)) (B .passed .out) .0)
+  active-a = not-false (activeAt v a) (neither (not (activeAt v a)) (not (activeAt v b)) (B .passed 7) .0)
 
   active-b : activeAt v b ≡ true
-  active-b = not-false (activeAt v b) (neither (not (activeAt v a)) (not (activeAt v b)) (B .passed .out) .1)
+  active-b = not-false (activeAt v b) (neither (not (activeAt v a)) (not (activeAt v b)) (B .passed 7) .1)
 
   less : markAt v b < markAt v a
-  less = ltb-true (markAt v b) (markAt v a) (not-false _ (B .passed .nothing))
+  less = ltb-true (markAt v b) (markAt v a) (not-false _ (B .passed 16))
 
   A : ReplicaTie (h .places) source (H .standing a) (copyOf σ a)
   A = S .replicas .each a within-a
@@ -107,10 +107,10 @@ module _ (h : Shape) (x : State) (H : History) (σ : protocol.State) (content lo
   T = S .replicas .each b (M .replica)
 
   promise-a : σ .promise a ≡ z
-  promise-a = sym (A .promise) ∙ agrees (h .places) v a source (B .passed .source) .promise
+  promise-a = sym (A .promise) ∙ agrees (h .places) v a source (B .passed 17) .promise
 
   mark-a : markAt v a ≡ σ .mark a
-  mark-a = sym (agrees (h .places) v a source (B .passed .source) .mark) ∙ A .mark
+  mark-a = sym (agrees (h .places) v a source (B .passed 17) .mark) ∙ A .mark
 
   -- the record that is copied
   abbrev bs : List ℕ
@@ -118,8 +118,8 @@ module _ (h : Shape) (x : State) (H : History) (σ : protocol.State) (content lo
 
   accepted : answered f ≡ true → refusesAt (h .places) v (x .media) b ≡ false
   accepted =
-      accepts (h .places) v (x .media) b f (B .passed .slot) (B .passed .promise)
-      (B .passed .mark)
+      accepts (h .places) v (x .media) b f (B .passed 18) (B .passed 19)
+      (B .passed 20)
 
   -- a replica that does not decline
   module _ (e : refusesAt (h .places) v (x .media) b ≡ false) where
@@ -286,4 +286,4 @@ module _ (h : Shape) (x : State) (H : History) (σ : protocol.State) (content lo
         (goes c (answered f) (valueOr 0 (replyTo f (ok (cond (isOpen (v .phase)) (w .acked) mark ∷ [])))) refl refl)
 
   pub copy-played : Played h x H σ (with-call (call.Copy s a b f) content locks given reader)
-  copy-played = ⊎-elim opening-played open-played (not-idle (v .phase) (B .passed .phase))
+  copy-played = ⊎-elim opening-played open-played (not-idle (v .phase) (B .passed 5))

@@ -35,7 +35,7 @@ use Rattle.cluster.specs.Effects.{issuedFields, issuedServer, issueEffect}
 use Rattle.guarantee.specs.History.{History, Logged, issuedAs, told}
 use Rattle.guarantee.proofs.Ties.{rowOf, storyOf, loggedOf, OpenTie, ServerTie, ServersTie, SessionTie, SessionsTie, Sim}
 use Rattle.guarantee.proofs.Frames.{server-frame, alone-in, table-others, table-written, session-frame}
-use Rattle.guarantee.proofs.Passing.{is-open, neither, within}
+use Rattle.guarantee.proofs.Passing.{below-four, is-open, neither, within}
 use Rattle.guarantee.proofs.Sessions.{setAt-same, setAt-other, told-issued}
 use Rattle.guarantee.proofs.Facts.{open-lives}
 use Rattle.guarantee.proofs.Played.{with-call, Before, Played}
@@ -60,10 +60,10 @@ module _ (h : Shape) (x : State) (H : History) (σ : protocol.State) (content lo
   table = tableAt s (x .tables)
 
   serves : v .phase ≡ Open
-  serves = is-open (v .phase) (B .passed .phase)
+  serves = is-open (v .phase) (B .passed 5)
 
   tie : ServerTie (h .replicas) v table (H .current s) (rowOf σ)
-  tie = S .servers .each s (B .passed .server)
+  tie = S .servers .each s (below-four s (B .passed 3))
 
   row : OpenTie (h .replicas) v table (rowOf σ z)
   row = tie .serving serves
@@ -92,20 +92,20 @@ module _ (h : Shape) (x : State) (H : History) (σ : protocol.State) (content lo
   below k = omega (arith, row .estimate k, row .entered k, row .issued)
 
   size : length table ≡ tableSize
-  size = length-part (s * tableSize) tableSize (x .tables) (omega (arith, S .servers .tables-size, B .passed .server))
+  size = length-part (s * tableSize) tableSize (x .tables) (omega (arith, S .servers .tables-size, below-four s (B .passed 3)))
 
   can : Can-issue σ z tx (estimateOf table′)
   can =
       record {
         phase = row .phase;
-        free = λ k m. omega (arith, row .estimate k, granted-above table locks (q .mark) k (free (firstHeld table locks (q .mark)) (B .passed .locks)) m);
+        free = λ k m. omega (arith, row .estimate k, granted-above table locks (q .mark) k (free (firstHeld table locks (q .mark)) (B .passed 15)) m);
         rises = λ k. omega (arith, row .estimate k, rises table locks n k (below k));
         enters = λ k m. omega (arith, next, enters table locks n k size m);
       }
 
   room : n ≤ h .places
   room =
-      omega (arith, within h x s (B .passed .marks) (B .passed .server) .issued, eqb-false (v .issued) (h .places) (B .passed .full))
+      omega (arith, within h x s (B .passed 2) (below-four s (B .passed 3)) .issued, eqb-false (v .issued) (h .places) (B .passed 14))
 
   valid : validPlace n (tx .bytes) ≡ true
   valid =
@@ -119,7 +119,7 @@ module _ (h : Shape) (x : State) (H : History) (σ : protocol.State) (content lo
         sequence = r .sequence;
         header = r .header;
       })
-      (ltb-false dataLimit (length content) (neither (ltb dataLimit (length content)) (ltb lockLimit (length locks)) (B .passed .size) .0))
+      (ltb-false dataLimit (length content) (neither (ltb dataLimit (length content)) (ltb lockLimit (length locks)) (B .passed 12) .0))
       (B .covered .fits .content) .valid
 
   -- ---- the rows
@@ -167,16 +167,16 @@ module _ (h : Shape) (x : State) (H : History) (σ : protocol.State) (content lo
 
   written-table : (tableAt s tables′ ≡ table′) × (length tables′ ≡ 4 * tableSize)
   written-table =
-      table-written (x .tables) table′ (S .servers .tables-size) (length-marked-all table locks n ∙ size) s (B .passed .server)
+      table-written (x .tables) table′ (S .servers .tables-size) (length-marked-all table locks n ∙ size) s (below-four s (B .passed 3))
 
   servers : ServersTie (h .replicas) (set (x .records .servers) s w) tables′ (H .current) (rowOf τ)
   servers =
       let awake = open-lives v serves in
-      let alone = alone-in _ _ _ _ _ (S .servers) s (B .passed .server) awake in
-      server-frame _ _ _ _ _ (S .servers) s (B .passed .server) w tables′ (H .current) (rowOf τ)
+      let alone = alone-in _ _ _ _ _ (S .servers) s (below-four s (B .passed 3)) awake in
+      server-frame _ _ _ _ _ (S .servers) s (below-four s (B .passed 3)) w tables′ (H .current) (rowOf τ)
       (record {
         size = written-table .1;
-        table = λ t k d. table-others (x .tables) table′ (S .servers .tables-size) (length-marked-all table locks n ∙ size) s (B .passed .server) t d;
+        table = λ t k d. table-others (x .tables) table′ (S .servers .tables-size) (length-marked-all table locks n ∙ size) s (below-four s (B .passed 3)) t d;
         take = λ t d. refl;
         row = λ t k d a. rows _ (alone t k d a);
       })

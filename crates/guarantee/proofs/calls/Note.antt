@@ -20,7 +20,7 @@ use Rattle.cluster.specs.Effects.{mediumAfter, noteEffect}
 use Rattle.guarantee.specs.History.{History, told}
 use Rattle.guarantee.proofs.Ties.{Sim, ReplicaTie, copyOf}
 use Rattle.guarantee.proofs.Frames.{replica-frame}
-use Rattle.guarantee.proofs.Passing.{is-open}
+use Rattle.guarantee.proofs.Passing.{below-four, is-open}
 use Rattle.guarantee.proofs.Operations.{noted-mark, noted-tie}
 use Rattle.guarantee.proofs.Messages.{Message, message-of, agrees, accepts}
 use Rattle.guarantee.proofs.Hearing.{open-kept}
@@ -33,7 +33,7 @@ module _ (h : Shape) (x : State) (H : History) (σ : protocol.State) (content lo
 
   M : Message h x s i f given
   M =
-      message-of h x s i f given (B .range) (B .covered .fits .given refl) (B .passed .marks) (B .passed .server) (B .passed .replica) (B .passed .fate)
+      message-of h x s i f given (B .range) (B .covered .fits .given refl) (B .passed 2) (below-four s (B .passed 3)) (B .passed 4) (B .passed 6)
 
   abbrev v : Server
   v = serverAt (x .records) s
@@ -53,7 +53,7 @@ module _ (h : Shape) (x : State) (H : History) (σ : protocol.State) (content lo
 
   left-mark : (c : Bool) → refusesAt (h .places) v (x .media) i ≡ c → answered f ≡ true → markOf (h .places) (left c) ≡ markAt v i
   left-mark true e a =
-      absurd (true≢false (sym e ∙ accepts (h .places) v (x .media) i f (B .passed .slot) (B .passed .promise) (B .passed .mark) a))
+      absurd (true≢false (sym e ∙ accepts (h .places) v (x .media) i f (B .passed 18) (B .passed 19) (B .passed 20) a))
   left-mark false e a =
       noted-mark (h .places) f given m (H .standing i) (copyOf σ i) (S .replicas .each i (M .replica)) (M .harmless) (v .start) (markAt v i)
       (omega (arith, B .range .most, M .within .start)) (omega (arith, B .range .most, M .within .marks i (M .replica)))
@@ -71,7 +71,7 @@ module _ (h : Shape) (x : State) (H : History) (σ : protocol.State) (content lo
             replica-frame (h .replicas) (h .places) (x .media) (H .standing) (copyOf σ) (S .replicas) i (M .replica) (left c)
             (H .standing) (copyOf σ) (λ j n. refl) (λ j n. refl) (left-tie c);
         servers =
-            open-kept h x H σ S s i f given M (is-open (v .phase) (B .passed .phase)) (not-false (activeAt v i) (B .passed .out))
+            open-kept h x H σ S s i f given M (is-open (v .phase) (B .passed 5)) (not-false (activeAt v i) (B .passed 7))
             (markOf (h .places) (left c)) (left-mark c refl);
         sessions = S .sessions;
       }

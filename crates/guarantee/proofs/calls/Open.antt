@@ -22,7 +22,7 @@ use Rattle.cluster.specs.Effects.{Result, openedRegister, openEffect}
 use Rattle.guarantee.specs.History.{History, valueOr, answeredOpen, startingMark, told, next}
 use Rattle.guarantee.proofs.Ties.{rowOf, Sim}
 use Rattle.guarantee.proofs.Frames.{elsewhere, idle-frame}
-use Rattle.guarantee.proofs.Passing.{Passes, step-passes, passes-answered, is-opening}
+use Rattle.guarantee.proofs.Passing.{below-four, Passes, step-passes, passes-answered, is-opening}
 use Rattle.guarantee.proofs.Registers.{unchanged}
 use Rattle.guarantee.proofs.Facts.{opening-lives}
 use Rattle.guarantee.proofs.Opening.{Found, found}
@@ -44,10 +44,10 @@ module _ (h : Shape) (x : State) (H : History) (σ : protocol.State) (content lo
   v = serverAt (x .records) s
 
   opens : v .phase ≡ Opening
-  opens = is-opening (v .phase) (B .passed .phase)
+  opens = is-opening (v .phase) (B .passed 5)
 
   current : H .current s ≡ v .session
-  current = S .servers .each s (B .passed .server) .current (opening-lives v opens)
+  current = S .servers .each s (below-four s (B .passed 3)) .current (opening-lives v opens)
 
   F : Found h x σ s
   F = found h x H σ content locks given reader s f B
@@ -61,15 +61,15 @@ module _ (h : Shape) (x : State) (H : History) (σ : protocol.State) (content lo
         register = S .register;
         replicas = S .replicas;
         servers =
-            idle-frame _ _ _ _ _ (S .servers) s (B .passed .server) (H .current) (rowOf σ) (elsewhere _ _ _ _ _ (S .servers) s (B .passed .server));
+            idle-frame _ _ _ _ _ (S .servers) s (below-four s (B .passed 3)) (H .current) (rowOf σ) (elsewhere _ _ _ _ _ (S .servers) s (below-four s (B .passed 3)));
         sessions = S .sessions;
       }
 
   -- the replica that is read
-  reads : openEffect R x s f .state .records .register ≡ openedRegister R g v → (reader < R) × (cleanAt R v reader ≡ true)
+  reads : openEffect R (voteMark R v) x s f .state .records .register ≡ openedRegister R g v (voteMark R v) → (reader < R) × (cleanAt v (voteMark R v) reader ≡ true)
   unfolding next
   reads e =
-      let q = ap (λ (r : Result). r .state .records .register) (step-passes h x _ (B .passes)) ∙ e in
+      let q = ap (λ (r : Result). r .state .records .register) (step-passes h x (with-call (call.Open s f) content locks given reader .input) (B .passes)) ∙ e in
       let r = B .covered .reads s f refl (rw q (F .is-changed)) in
       (r .0, F .is-clean reader (r .0) (rw q at (r .1) ∙ current))
 
@@ -97,7 +97,7 @@ module _ (h : Shape) (x : State) (H : History) (σ : protocol.State) (content lo
   played-answered B =
       let v = serverAt (x .records) s in
       let d = voteMark (h .replicas) v in
-      let same : differs ≡ false = B .passed .session in
+      let same : differs ≡ false = B .passed 22 in
       let F = found h x H σ content locks given reader s Answered B in
       let p = opens h x H σ content locks given reader s Answered B in
       let r = reads h x H σ content locks given reader s Answered B (rw same) in
@@ -109,7 +109,7 @@ module _ (h : Shape) (x : State) (H : History) (σ : protocol.State) (content lo
       ) (
         after-open σ (v .session) d reader,
         open-answered σ (v .session) d reader (F .can same reader (r .0) (r .1)),
-        answered h x H σ (B .sim) (B .inv) (B .range) s (B .passed .server) p F same reader (r .0) (r .1),
+        answered h x H σ (B .sim) (B .inv) (B .range) s (below-four s (B .passed 3)) p F same reader (r .0) (r .1),
       )
 
   played-unanswered : Plays AnswerLost
@@ -132,7 +132,7 @@ module _ (h : Shape) (x : State) (H : History) (σ : protocol.State) (content lo
           ) (
             after-open σ (v .session) d reader,
             open-answered σ (v .session) d reader (F .can e reader (r .0) (r .1)),
-            unanswered h x H σ (B .sim) (B .inv) (B .range) s (B .passed .server) p F e reader (r .0) (r .1),
+            unanswered h x H σ (B .sim) (B .inv) (B .range) s (below-four s (B .passed 3)) p F e reader (r .0) (r .1),
           )
 
   pub open-played : (f : Fate) → Plays f
@@ -140,4 +140,4 @@ module _ (h : Shape) (x : State) (H : History) (σ : protocol.State) (content lo
   open-played Answered B = played-answered B
   open-played Lost B = rw (unchanged (x .records .register)) (σ, Steps.none, lost h x H σ content locks given reader s Lost B)
   open-played AnswerLost B = played-unanswered B
-  open-played (Cut w l) B = absurd (true≢false (B .passed .fate))
+  open-played (Cut w l) B = absurd (true≢false (B .passed 6))

@@ -8,8 +8,9 @@ use Prim.Native.Nat.{ℕ, _^_, _≤_, _<_}
 use native.Mathlib.Omega.{arith}
 use borrow.Author.Tests.{ltb-false}
 use Rattle.fate.specs.declared.Fate.{Fate}
-use Rattle.storage.specs.declared.operation.Closing.{Closing}
-use Rattle.storage.specs.declared.operation.Closing.the-variants.{Unresolved, Mark}
+use Rattle.storage.specs.declared.operation.Target.{Target}
+use Rattle.cluster.specs.declared.Closing.{Closing}
+use Rattle.cluster.specs.declared.Closing.the-variants.{Unresolved, Mark}
 use Rattle.storage.specs.Slots.{storedSlot}
 use Rattle.storage.specs.Log.{markOf}
 use Rattle.storage.specs.Operations.{closedMark, mediumAt, withMedium, prepareWrites}
@@ -24,22 +25,22 @@ use Rattle.cluster.specs.declared.Server.{Server}
 use Rattle.cluster.specs.declared.Call.the-variants as call
 use Rattle.cluster.specs.State.{State, serverAt, entryAt}
 use Rattle.cluster.specs.Refusals.{answered, noSlot, promiseAbove, refusesPrepare}
-use Rattle.cluster.specs.Effects.{heard, unheard, mediumAfter, withMediumAndServer, prepareEffect}
+use Rattle.cluster.specs.Effects.{targetOf, heard, unheard, mediumAfter, withMediumAndServer, prepareEffect}
 use Rattle.guarantee.specs.History.{History, told}
 use Rattle.guarantee.proofs.Ties.{Sim, Goes, ReplicaTie, ReplicasTie, OpeningTie, isUnresolved, copyOf, rowOf}
 use Rattle.guarantee.proofs.Frames.{replica-frame}
-use Rattle.guarantee.proofs.Passing.{neither, is-opening}
+use Rattle.guarantee.proofs.Passing.{below-four, neither, is-opening}
 use Rattle.guarantee.proofs.Operations.{closed-le, prepared-tie, answered-tie}
 use Rattle.guarantee.proofs.Messages.{Message, message-of, accepts-prepare, is-answered}
 use Rattle.guarantee.proofs.Hearing.{only-none, only-set, only-then, opening-told, opening-forgets, opening-silent}
 use Rattle.guarantee.proofs.Played.{with-call, Before, Played}
 
 -- an unresolved replica keeps its log, and another keeps no more than its closing mark
-kept-mark : (to : Closing) (n : ℕ) → isUnresolved to ≡ true → closedMark to n ≡ n
+kept-mark : (to : Closing) (n : ℕ) → isUnresolved to ≡ true → closedMark (targetOf to) n ≡ n
 kept-mark Unresolved n e = refl
 kept-mark (Mark c) n e = absurd (true≢false (sym e))
 
-closed-mark : (to : Closing) (n : ℕ) → isUnresolved to ≡ false → (c : ℕ) × (to ≡ Mark c) × (closedMark to n ≤ c)
+closed-mark : (to : Closing) (n : ℕ) → isUnresolved to ≡ false → (c : ℕ) × (to ≡ Mark c) × (closedMark (targetOf to) n ≤ c)
 closed-mark Unresolved n e = absurd (true≢false e)
 closed-mark (Mark c) n e = (c, refl, omega arith)
 
@@ -50,7 +51,7 @@ module _ (h : Shape) (x : State) (H : History) (σ : protocol.State) (content lo
 
   M : Message h x s i f given
   M =
-      message-of h x s i f given (B .range) (B .covered .fits .given refl) (B .passed .marks) (B .passed .server) (B .passed .replica) (B .passed .fate)
+      message-of h x s i f given (B .range) (B .covered .fits .given refl) (B .passed 2) (below-four s (B .passed 3)) (B .passed 4) (B .passed 6)
 
   abbrev v : Server
   v = serverAt (x .records) s
@@ -61,11 +62,14 @@ module _ (h : Shape) (x : State) (H : History) (σ : protocol.State) (content lo
   abbrev m : List ℕ
   m = mediumAt (h .places) i (x .media)
 
-  abbrev to : Closing
-  to = entryAt (v .entries) i .closing
+  abbrev closing : Closing
+  closing = entryAt (v .entries) i .closing
+
+  abbrev to : Target
+  to = targetOf closing
 
   opening : v .phase ≡ Opening
-  opening = is-opening (v .phase) (B .passed .phase)
+  opening = is-opening (v .phase) (B .passed 5)
 
   row : OpeningTie (h .replicas) v (rowOf σ z)
   row = S .servers .each s (M .server) .opening opening
@@ -102,17 +106,17 @@ module _ (h : Shape) (x : State) (H : History) (σ : protocol.State) (content lo
     below = omega (arith, stored, T .promise)
 
     kept : (k : ℕ) → closedMark to (σ .mark i) ≤ k → σ .handed-unresolved z i ≡ true → σ .mark i ≤ k
-    kept k l u = omega (arith, kept-mark to (σ .mark i) (row .unresolved i (M .replica) ∙ u))
+    kept k l u = omega (arith, kept-mark closing (σ .mark i) (row .unresolved i (M .replica) ∙ u))
 
     whole : σ .handed-unresolved z i ≡ false → closedMark to (σ .mark i) ≤ σ .handed-closing z i
     whole u =
-        let c = closed-mark to (σ .mark i) (row .unresolved i (M .replica) ∙ u) in
+        let c = closed-mark closing (σ .mark i) (row .unresolved i (M .replica) ∙ u) in
         omega (arith, c .2, row .closing i (c .0) (M .replica) (c .1))
 
   goes : (c b : Bool) → refusesPrepare z m ≡ c → answered f ≡ b
       → Goes h σ (withMediumAndServer (h .places) x s i (left c) (cond b (heard v i (markOf (h .places) (left c))) (unheard v i))) H
   goes true true e a =
-      absurd (true≢false (sym e ∙ accepts-prepare z m f (B .passed .slot) (B .passed .promise) a))
+      absurd (true≢false (sym e ∙ accepts-prepare z m f (B .passed 18) (B .passed 19) a))
   goes true false e a = opening-silent h x H σ S s i f given M opening m T
   goes false true e a =
       let t =

@@ -18,7 +18,7 @@ use Rattle.cluster.specs.Refusals.{answered}
 use Rattle.cluster.specs.Effects.{readEffect}
 use Rattle.guarantee.specs.History.{History, told}
 use Rattle.guarantee.proofs.Ties.{Sim}
-use Rattle.guarantee.proofs.Passing.{is-open}
+use Rattle.guarantee.proofs.Passing.{below-four, is-open}
 use Rattle.guarantee.proofs.Messages.{Message, message-of, agrees, accepts}
 use Rattle.guarantee.proofs.Hearing.{open-kept}
 use Rattle.guarantee.proofs.Played.{with-call, Before, Played}
@@ -30,7 +30,7 @@ module _ (h : Shape) (x : State) (H : History) (σ : protocol.State) (content lo
 
   M : Message h x s i f given
   M =
-      message-of h x s i f given (B .range) (B .covered .fits .given refl) (B .passed .marks) (B .passed .server) (B .passed .replica) (B .passed .fate)
+      message-of h x s i f given (B .range) (B .covered .fits .given refl) (B .passed 2) (below-four s (B .passed 3)) (B .passed 4) (B .passed 6)
 
   abbrev v : Server
   v = serverAt (x .records) s
@@ -41,7 +41,7 @@ module _ (h : Shape) (x : State) (H : History) (σ : protocol.State) (content lo
   found-mark : answered f ≡ true → markOf (h .places) m ≡ markAt v i
   found-mark a =
       agrees (h .places) v i m
-      (accepts (h .places) v (x .media) i f (B .passed .slot) (B .passed .promise) (B .passed .mark) a)
+      (accepts (h .places) v (x .media) i f (B .passed 18) (B .passed 19) (B .passed 20) a)
       .mark
 
   looked : Sim h (readEffect (h .places) x s i n f .state) H σ
@@ -53,7 +53,7 @@ module _ (h : Shape) (x : State) (H : History) (σ : protocol.State) (content lo
         register = S .register;
         replicas = S .replicas;
         servers =
-            open-kept h x H σ S s i f given M (is-open (v .phase) (B .passed .phase)) (not-false (activeAt v i) (B .passed .out))
+            open-kept h x H σ S s i f given M (is-open (v .phase) (B .passed 5)) (not-false (activeAt v i) (B .passed 7))
             (markOf (h .places) m) found-mark;
         sessions = S .sessions;
       }

@@ -18,7 +18,7 @@ use Rattle.cluster.specs.State.{State, serverAt, markAt, activeAt, tableAt}
 use Rattle.cluster.specs.Refusals.{refusesAt}
 use Rattle.guarantee.specs.History.{Transaction, History, transactionIn, told}
 use Rattle.guarantee.proofs.Ties.{Sim, ReplicaTie, OpenTie, copyOf, rowOf, loggedOf, transactionOf}
-use Rattle.guarantee.proofs.Passing.{is-open}
+use Rattle.guarantee.proofs.Passing.{below-four, is-open}
 use Rattle.guarantee.proofs.Sessions.{log-issued}
 use Rattle.guarantee.proofs.Facts.{open-lives}
 use Rattle.guarantee.proofs.Messages.{Message, message-of, agrees, accepts}
@@ -33,7 +33,7 @@ module _ (h : Shape) (x : State) (H : History) (σ : protocol.State) (content lo
 
   M : Message h x s i f given
   M =
-      message-of h x s i f given (B .range) (B .covered .fits .given refl) (B .passed .marks) (B .passed .server) (B .passed .replica) (B .passed .fate)
+      message-of h x s i f given (B .range) (B .covered .fits .given refl) (B .passed 2) (below-four s (B .passed 3)) (B .passed 4) (B .passed 6)
 
   abbrev v : Server
   v = serverAt (x .records) s
@@ -45,10 +45,10 @@ module _ (h : Shape) (x : State) (H : History) (σ : protocol.State) (content lo
   m = mediumAt (h .places) i (x .media)
 
   opened : v .phase ≡ Open
-  opened = is-open (v .phase) (B .passed .phase)
+  opened = is-open (v .phase) (B .passed 5)
 
   active : activeAt v i ≡ true
-  active = not-false (activeAt v i) (B .passed .out)
+  active = not-false (activeAt v i) (B .passed 7)
 
   row : OpenTie (h .replicas) v (tableAt s (x .tables)) (rowOf σ z)
   row = S .servers .each s (M .server) .serving opened
@@ -69,7 +69,7 @@ module _ (h : Shape) (x : State) (H : History) (σ : protocol.State) (content lo
     next =
         omega (
           arith,
-          eqb-true (markAt v i + 1) (v .issued) (not-false _ (B .passed .nothing)),
+          eqb-true (markAt v i + 1) (v .issued) (not-false _ (B .passed 16)),
           agrees (h .places) v i m e .mark,
           T .mark,
           row .issued,
@@ -117,5 +117,5 @@ module _ (h : Shape) (x : State) (H : History) (σ : protocol.State) (content lo
   unfolding told
   send-played =
       open-append h x H σ S (B .inv) s i f given M opened active issues (v .held)
-      (accepts (h .places) v (x .media) i f (B .passed .slot) (B .passed .promise) (B .passed .mark))
+      (accepts (h .places) v (x .media) i f (B .passed 18) (B .passed 19) (B .passed 20))
       sends (λ n. n) (λ n. omega arith)

@@ -10,6 +10,7 @@ use Rattle.cluster.specs.declared.Call.the-variants as call
 use Rattle.cluster.specs.State.{State, idleServer}
 use Rattle.cluster.specs.Effects.{stopEffect}
 use Rattle.guarantee.specs.History.{History, told}
+use Rattle.guarantee.proofs.Passing.{below-four}
 use Rattle.guarantee.proofs.Ties.{rowOf, ServersTie, Sim}
 use Rattle.guarantee.proofs.Frames.{elsewhere, idle-frame}
 use Rattle.guarantee.proofs.Played.{with-call, Before, Played}
@@ -21,7 +22,7 @@ module _ (h : Shape) (x : State) (H : History) (σ : protocol.State) (content lo
 
   T : ServersTie (h .replicas) (set (x .records .servers) s idleServer) (x .tables) (H .current) (rowOf σ)
   T =
-      let l = B .passed .server in
+      let l = below-four s (B .passed 3) in
       idle-frame _ _ _ _ _ (S .servers) s l (H .current) (rowOf σ) (elsewhere _ _ _ _ _ (S .servers) s l)
 
   stopped : Sim h (stopEffect x s .state) H σ

@@ -23,6 +23,7 @@ use Rattle.cluster.specs.State.{State, idleServer}
 use Rattle.cluster.specs.Refusals.{sessionAtTop}
 use Rattle.cluster.specs.Effects.{withRegisterAndServer, raisedSession, openingServer, takeEffect}
 use Rattle.guarantee.specs.History.{History, setAt, withCurrent, told}
+use Rattle.guarantee.proofs.Passing.{below-four}
 use Rattle.guarantee.proofs.Sessions.{setAt-same, setAt-other}
 use Rattle.guarantee.proofs.Ties.{rowOf, OpeningTie, RegisterTie, Sim}
 use Rattle.guarantee.proofs.Frames.{Elsewhere, server-frame, idle-frame}
@@ -53,7 +54,7 @@ module _ (h : Shape) (x : State) (H : History) (σ : protocol.State) (content lo
         register = S .register;
         replicas = S .replicas;
         servers =
-            idle-frame _ _ _ _ _ (S .servers) s (B .passed .server) (setAt (H .current) s c) (rowOf σ)
+            idle-frame _ _ _ _ _ (S .servers) s (below-four s (B .passed 3)) (setAt (H .current) s c) (rowOf σ)
             (record { size = S .servers .tables-size; table = λ t k d. refl; take = λ t d. setAt-other (H .current) s c t d; row = λ t k d a. refl });
         sessions = S .sessions;
       }
@@ -98,7 +99,7 @@ module _ (h : Shape) (x : State) (H : History) (σ : protocol.State) (content lo
           Q = S .Q;
           register = register;
           replicas = S .replicas;
-          servers = idle-frame _ _ _ _ _ (S .servers) s (B .passed .server) (setAt (H .current) s c) (rowOf τ) (off c);
+          servers = idle-frame _ _ _ _ _ (S .servers) s (below-four s (B .passed 3)) (setAt (H .current) s c) (rowOf τ) (off c);
           sessions = S .sessions;
         }
 
@@ -135,7 +136,7 @@ module _ (h : Shape) (x : State) (H : History) (σ : protocol.State) (content lo
           register = register;
           replicas = S .replicas;
           servers =
-              server-frame _ _ _ _ _ (S .servers) s (B .passed .server) w (x .tables) (setAt (H .current) s (g .session + 1)) (rowOf τ) (off (g .session + 1))
+              server-frame _ _ _ _ _ (S .servers) s (below-four s (B .passed 3)) w (x .tables) (setAt (H .current) s (g .session + 1)) (rowOf τ) (off (g .session + 1))
               (λ a. rw in-z (next-alone h x H σ S (B .inv) s))
               (record {
                 sized = record { known = refl; dropped = refl; marks = refl };
@@ -150,7 +151,7 @@ pub take-played : (h : Shape) (x : State) (H : History) (σ : protocol.State) (c
     → Before h x H σ (with-call (call.Take s f) content locks given reader) → Played h x H σ (with-call (call.Take s f) content locks given reader)
 unfolding takeEffect told
 take-played h x H σ content locks given reader s Answered B =
-    rw (B .passed .top) (after-take σ, take-answered σ, answered h x H σ content locks given reader s Answered B (B .passed .top))
+    rw (B .passed 21) (after-take σ, take-answered σ, answered h x H σ content locks given reader s Answered B (B .passed 21))
 take-played h x H σ content locks given reader s Lost B = (σ, Steps.none, lost h x H σ content locks given reader s Lost B (H .current s))
 take-played h x H σ content locks given reader s AnswerLost B = go (sessionAtTop (x .records .register .session)) refl
   where
@@ -158,4 +159,4 @@ take-played h x H σ content locks given reader s AnswerLost B = go (sessionAtTo
         → Played h x H σ (with-call (call.Take s AnswerLost) content locks given reader)
     go true e = rw e (σ, Steps.none, lost h x H σ content locks given reader s AnswerLost B (H .current s))
     go false e = rw e (after-take σ, take-answered σ, unanswered h x H σ content locks given reader s AnswerLost B e (H .current s))
-take-played h x H σ content locks given reader s (Cut w l) B = absurd (true≢false (B .passed .fate))
+take-played h x H σ content locks given reader s (Cut w l) B = absurd (true≢false (B .passed 6))

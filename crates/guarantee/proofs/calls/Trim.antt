@@ -25,7 +25,7 @@ use Rattle.cluster.specs.Effects.{heard, unheard, mediumAfter, withMediumAndSer
 use Rattle.guarantee.specs.History.{History, told}
 use Rattle.guarantee.proofs.Ties.{Sim, Goes, ReplicaTie, ReplicasTie, OpeningTie, copyOf, rowOf}
 use Rattle.guarantee.proofs.Frames.{replica-frame}
-use Rattle.guarantee.proofs.Passing.{is-opening}
+use Rattle.guarantee.proofs.Passing.{below-four, is-opening}
 use Rattle.guarantee.proofs.Counts.{decided-tie}
 use Rattle.guarantee.proofs.Operations.{trimmed, trimmed-tie}
 use Rattle.guarantee.proofs.Messages.{Message, message-of, agrees, accepts}
@@ -39,7 +39,7 @@ module _ (h : Shape) (x : State) (H : History) (σ : protocol.State) (content lo
 
   M : Message h x s i f given
   M =
-      message-of h x s i f given (B .range) (B .covered .fits .given refl) (B .passed .marks) (B .passed .server) (B .passed .replica) (B .passed .fate)
+      message-of h x s i f given (B .range) (B .covered .fits .given refl) (B .passed 2) (below-four s (B .passed 3)) (B .passed 4) (B .passed 6)
 
   abbrev v : Server
   v = serverAt (x .records) s
@@ -54,7 +54,7 @@ module _ (h : Shape) (x : State) (H : History) (σ : protocol.State) (content lo
   D = voteMark (h .replicas) v
 
   opening : v .phase ≡ Opening
-  opening = is-opening (v .phase) (B .passed .phase)
+  opening = is-opening (v .phase) (B .passed 5)
 
   row : OpeningTie (h .replicas) v (rowOf σ z)
   row = S .servers .each s (M .server) .opening opening
@@ -63,7 +63,7 @@ module _ (h : Shape) (x : State) (H : History) (σ : protocol.State) (content lo
   T = S .replicas .each i (M .replica)
 
   known : σ .known z i ≡ true
-  known = sym (row .known i (M .replica)) ∙ not-false (activeAt v i) (B .passed .out)
+  known = sym (row .known i (M .replica)) ∙ not-false (activeAt v i) (B .passed 7)
 
   -- how far the wiping came
   k : ℕ
@@ -76,12 +76,12 @@ module _ (h : Shape) (x : State) (H : History) (σ : protocol.State) (content lo
     can =
         let A = agrees (h .places) v i m e in
         let a = trimmed (h .places) f given m (H .standing i) (copyOf σ i) T (M .harmless) D .shortened in
-        let above : D < markAt v i = ltb-true D (markAt v i) (not-false _ (B .passed .nothing)) in
+        let above : D < markAt v i = ltb-true D (markAt v i) (not-false _ (B .passed 16)) in
         record {
           phase = row .phase;
           decided =
               decided-tie (h .replicas) σ z (S .R) (S .Q) (activeAt v) (markAt v) (row .known) (row .recorded)
-              (not-false (decided (activeAt v) (markAt v) (h .replicas)) (B .passed .undecided));
+              (not-false (decided (activeAt v) (markAt v) (h .replicas)) (B .passed 8));
           known = known;
           promise = sym (T .promise) ∙ A .promise;
           above = omega (arith, a .reaches, A .mark);
@@ -104,7 +104,7 @@ module _ (h : Shape) (x : State) (H : History) (σ : protocol.State) (content lo
   goes : (c b : Bool) → refusesAt (h .places) v (x .media) i ≡ c → answered f ≡ b
       → Goes h σ (withMediumAndServer (h .places) x s i (left c) (cond b (heard v i (markOf (h .places) (left c))) (unheard v i))) H
   goes true true e a =
-      absurd (true≢false (sym e ∙ accepts (h .places) v (x .media) i f (B .passed .slot) (B .passed .promise) (B .passed .mark) a))
+      absurd (true≢false (sym e ∙ accepts (h .places) v (x .media) i f (B .passed 18) (B .passed 19) (B .passed 20) a))
   goes true false e a = opening-silent h x H σ S s i f given M opening m T
   goes false true e a = (
     after-trim σ z i k,

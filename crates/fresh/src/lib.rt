@@ -3,16 +3,16 @@ ghost use mathlib.Core.Path.{_≡_};
 ghost use Prim.Native.Nat.{_*_, _≤_};
 ghost use lib.ListN.{length, replicate};
 ghost use Rattle.crc32.specs.Tables.{tablesOf};
-ghost use Rattle.storage.specs.Sizes.{mediumSize};
+ghost use Rattle.storage.specs.Sizes.{placesLimit, mediumSize};
 ghost use Rattle.storage.specs.Fresh.{freshMedium, blankSlot};
 ghost use Rattle.cluster.specs.State.{freshMedia, freshEntry, idleServer, tableSize, fresh};
+use cluster::Closing;
 use cluster::Entry;
 use cluster::Records;
 use cluster::Register;
 use cluster::Shape;
 use crc32::Tables;
-use storage::operation::Closing;
-use storage::sizes::PLACE;
+use storage::sizes;
 use storage::sizes::SLOT;
 use storage::sizes::SLOTS;
 use storage::slot;
@@ -43,11 +43,11 @@ pub fn medium(t: &Tables, m: &mut [u8], places: usize)
 // The media of so many replicas, one after another.
 pub fn media(t: &Tables, m: &mut [u8], replicas: usize, places: usize)
     requires { ⌜ now t ≡ tablesOf ⌝ }
-    requires { ⌜ places ≤ 1000 ⌝ }
+    requires { ⌜ places ≤ placesLimit ⌝ }
     requires { ⌜ length (now m) ≡ replicas * mediumSize places ⌝ }
     ensures { λ _. ⌜ now (m .exit) ≡ freshMedia replicas places ⌝ }
 {
-    let size = SLOTS + PLACE * places;
+    let size = sizes::medium_size(places as u64);
     let mut at = 0;
     let mut left = replicas;
     while 0 < left {
@@ -90,7 +90,7 @@ pub fn records() -> Records
 // The whole cluster afresh, in the lent media and tables.
 pub fn start(t: &Tables, shape: Shape, m: &mut [u8], tables: &mut [u64]) -> Records
     requires { ⌜ now t ≡ tablesOf ⌝ }
-    requires { ⌜ shape .places ≤ 1000 ⌝ }
+    requires { ⌜ shape .places ≤ placesLimit ⌝ }
     requires { ⌜ length (now m) ≡ shape .replicas * mediumSize (shape .places) ⌝ }
     requires { ⌜ length (now tables) ≡ 4 * tableSize ⌝ }
     ensures { λ r. ⌜ record { records = r; media = now (m .exit); tables = now (tables .exit) } ≡ fresh shape ⌝ }

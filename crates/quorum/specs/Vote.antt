@@ -36,11 +36,15 @@ backed known mark r i = cond (known i && leb (quorum r) (reach known mark r (mar
 unfoldable pub majorityMark : (ℕ → Bool) → (ℕ → ℕ) → ℕ → ℕ
 majorityMark known mark r = highest (backed known mark r) r
 
+-- "R minus the number known": these may hold anything
+abbrev pub absent : (ℕ → Bool) → ℕ → ℕ
+absent known r = r - count known r
+
 -- "Decided: at least Q are known, and those of them reaching more, plus R minus the number known, are fewer than Q."
 unfoldable pub decided : (ℕ → Bool) → (ℕ → ℕ) → ℕ → Bool
 decided known mark r =
     leb (quorum r) (count known r)
-    && ltb (reach known mark r (suc (majorityMark known mark r)) + (r - count known r)) (quorum r)
+    && ltb (reach known mark r (suc (majorityMark known mark r)) + absent known r) (quorum r)
 
 unfoldable pub voteOf : (ℕ → Bool) → (ℕ → ℕ) → ℕ → Vote
 voteOf known mark r = cond (decided known mark r) (Decided (majorityMark known mark r)) Undecided

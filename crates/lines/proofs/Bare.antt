@@ -14,7 +14,7 @@ use Rattle.lines.specs.declared.values.Told.{Told}
 use Rattle.lines.specs.declared.values.Told.the-variants as told
 use Rattle.lines.specs.Words.{clusterWord, takeWord, prepWord, copyWord, openWord, sendWord}
 use Rattle.lines.specs.Values.{fateOf}
-use Rattle.lines.specs.Forms.{Meaning, bad, asked, number, fate, numberAt, fateAt, clusterForm, serverFate, serverReplicaFate, copyForm, begins, plainForm, dataOf, locksOf}
+use Rattle.lines.specs.Forms.{Meaning, bad, asked, number, fate, numberAt, fateAt, clusterForm, serverFate, serverReplicaFate, copyForm, begins, fromSend, fromOpen, fromCopy, fromPrepare, fromTake, plainForm, dataOf, locksOf}
 
 pub record Bare (m : Meaning) : Type 0 where
   pub content : dataOf m ≡ []
@@ -60,7 +60,7 @@ module _ (s : List ℕ) where
   copy-bare = with-number 1 _ (λ v. with-number 2 _ (λ a. with-number 3 _ (λ b. with-fate 4 _ (λ f. no-more _))))
 
   pub plain-bare : Bare (plainForm s)
-  unfolding plainForm
+  unfolding plainForm fromTake fromPrepare fromCopy fromOpen fromSend
   plain-bare =
       either (begins s clusterWord 3) _ _ cluster-bare
       (either (begins s takeWord 3) _ _ (one-bare call.Take)

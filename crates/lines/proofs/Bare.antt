@@ -10,8 +10,8 @@ use Rattle.cluster.specs.declared.Call.the-variants as call
 use Rattle.text.specs.declared.number.Number.{Number}
 use Rattle.text.specs.declared.number.Number.the-variants.{Is, Unfit}
 use Rattle.text.specs.Text.{fieldOf, numberOf}
-use Rattle.lines.specs.declared.values.Told.{Told}
-use Rattle.lines.specs.declared.values.Told.the-variants as told
+use Rattle.lines.specs.declared.values.FateField.{FateField}
+use Rattle.lines.specs.declared.values.FateField.the-variants as field
 use Rattle.lines.specs.Words.{clusterWord, takeWord, prepWord, copyWord, openWord, sendWord}
 use Rattle.lines.specs.Values.{fateOf}
 use Rattle.lines.specs.Forms.{Meaning, bad, asked, number, fate, numberAt, fateAt, clusterForm, serverFate, serverReplicaFate, copyForm, begins, fromSend, fromOpen, fromCopy, fromPrepare, fromTake, plainForm, dataOf, locksOf}
@@ -41,9 +41,9 @@ module _ (s : List ℕ) where
   with-fate : (i : ℕ) (k : Fate → Meaning) → ((f : Fate) → Bare (k f)) → Bare (fateAt i s k)
   with-fate i k b = go (fateOf (numberOf (fieldOf i s)))
     where
-      go : (t : Told) → Bare (fate t k)
-      go told.Unfit = none
-      go (told.Is f) = b f
+      go : (t : FateField) → Bare (fate t k)
+      go field.Unfit = none
+      go (field.Is f) = b f
 
   cluster-bare : Bare (clusterForm s)
   unfolding clusterForm

@@ -17,8 +17,8 @@ use Rattle.text.specs.declared.number.Number.the-variants.{Is, Unfit}
 use Rattle.text.specs.declared.number.Word.{Word}
 use Rattle.text.specs.declared.number.Word.the-variants as word
 use Rattle.text.specs.Text.{afterOf, fieldOf, fieldCount, numberOf, wordOf}
-use Rattle.lines.specs.declared.values.Told.{Told}
-use Rattle.lines.specs.declared.values.Told.the-variants as told
+use Rattle.lines.specs.declared.values.FateField.{FateField}
+use Rattle.lines.specs.declared.values.FateField.the-variants as field
 use Rattle.lines.specs.declared.forms.Line.{Line}
 use Rattle.lines.specs.declared.forms.Line.the-variants as line
 use Rattle.lines.specs.declared.forms.One.{One}
@@ -28,7 +28,8 @@ use Rattle.lines.specs.declared.forms.Two.the-variants as two
 use Rattle.lines.specs.declared.forms.Head.{Head}
 use Rattle.lines.specs.declared.forms.Head.the-variants as head
 use Rattle.lines.specs.Words.{same, clusterWord, takeWord, prepWord, copyWord, openWord, issueWord, sendWord}
-use Rattle.lines.specs.Values.{fateOf, isHex, bytesOf, allNumbers, numbersOf}
+use Rattle.text.specs.Hex.{isHex, bytesOf}
+use Rattle.lines.specs.Values.{fateOf, allNumbers, numbersOf}
 
 -- what a line asks for: nothing ("prints bad and does nothing"), a fresh cluster of R and N, or a call with its data and locks
 pub data Meaning : Type 0 where
@@ -47,9 +48,9 @@ abbrev pub short : Word → (ℕ → Meaning) → Meaning
 short word.Unfit k = bad
 short (word.Is v) k = k v
 
-abbrev pub fate : Told → (Fate → Meaning) → Meaning
-fate told.Unfit k = bad
-fate (told.Is f) k = k f
+abbrev pub fate : FateField → (Fate → Meaning) → Meaning
+fate field.Unfit k = bad
+fate (field.Is f) k = k f
 
 abbrev pub numberAt : ℕ → List ℕ → (ℕ → Meaning) → Meaning
 numberAt i s k = number (numberOf (fieldOf i s)) k

@@ -12,10 +12,11 @@ ghost use Rattle.text.specs.Text.{fieldCount};
 ghost use Rattle.lines.specs.Words.{same};
 ghost use Rattle.lines.specs.Forms.{Meaning, clusterForm, serverFate, serverReplicaFate, copyForm, requestThen, dataThen, issueForm, fromSend, fromOpen, fromCopy, fromPrepare, fromTake, plainForm, meaningOf, lineLimit, Split, lineOf, dataOf, locksOf, oneThen, twoThen, headThen};
 use crate::values;
-use crate::values::Told;
+use crate::values::FateField;
 use cluster::Call;
 use cluster::Request;
 use fate::Fate;
+use text::hex;
 use text::line;
 use text::number::Number;
 use text::number::Word;
@@ -67,7 +68,7 @@ fn server_fate(line: &[u8]) -> One
     let Number::Is(server) = values::number_at(line, 1) else {
         return One::Unfit;
     };
-    let Told::Is(f) = values::fate_at(line, 2) else {
+    let FateField::Is(f) = values::fate_at(line, 2) else {
         return One::Unfit;
     };
     One::Are(server, f)
@@ -82,7 +83,7 @@ fn server_replica_fate(line: &[u8]) -> Two
     let Number::Is(i) = values::number_at(line, 2) else {
         return Two::Unfit;
     };
-    let Told::Is(f) = values::fate_at(line, 3) else {
+    let FateField::Is(f) = values::fate_at(line, 3) else {
         return Two::Unfit;
     };
     Two::Are(server, i, f)
@@ -100,7 +101,7 @@ fn copy(line: &[u8]) -> Line
     let Number::Is(b) = values::number_at(line, 3) else {
         return Line::Bad;
     };
-    let Told::Is(f) = values::fate_at(line, 4) else {
+    let FateField::Is(f) = values::fate_at(line, 4) else {
         return Line::Bad;
     };
     Line::Asked(Call::Copy(server, a, b, f), 0, 0)
@@ -153,7 +154,7 @@ fn beside(
     ensures { λ _. ⌜ now (locks .exit) ≡ writeAt 0 (locksOf (dataThen (now (line .entry)) server q)) (now (locks .entry)) ⌝ }
 {
     let digits = line::field(line, 5);
-    if !values::is_hex(digits) {
+    if !hex::is_hex(digits) {
         return Line::Bad;
     }
     let k = n - 6;
@@ -161,7 +162,7 @@ fn beside(
     if !values::all_numbers(rest, k) {
         return Line::Bad;
     }
-    values::read_hex(digits, content);
+    hex::read(digits, content);
     values::read_numbers(rest, k, locks);
     Line::Asked(Call::Issue(server, q), digits.len() / 2, k)
 }

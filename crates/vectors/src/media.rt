@@ -17,7 +17,7 @@ use storage::sizes::PLACE;
 use storage::sizes::SLOTS;
 use storage::slot::Current;
 use stored::fates;
-use stored::fates::Told;
+use stored::fates::FateField;
 use stored::hex;
 use stored::print;
 use text::line;
@@ -93,7 +93,7 @@ fn change(t: &Tables, line: &[u8], c: Command, places: usize, m: &mut [u8]) -> b
     let mut given = [0u8; PLACE];
     let op = operation::read(line, c, &mut src);
     let k = operation::fate_field(c);
-    let Told::Is(f) = fates::read(line, k) else {
+    let FateField::Is(f) = fates::read(line, k) else {
         return false;
     };
     if !load(line, k + 3, &mut given, m) {

@@ -1,14 +1,14 @@
--- `values::is_hex`. The invariant: whether the rest is digits in pairs decides.
+-- `hex::is_hex`. The invariant: whether the rest is digits in pairs decides.
 -- Assumes nothing.
 use mathlib.Core.Path.{_≡_, refl, sym, _∙_}
 use Prim.Native.Nat.{_+_, _-_, _<_, _≤_}
 use lib.ListN.{length, getD, drop}
-use Rattle.lines.specs.Values.{digitOf, isHex}
-use Rattle.lines.proofs.Hex.{hex-odd, hex-first, hex-second, hex-both, hex-end}
+use Rattle.text.specs.Hex.{digitOf, isHex}
+use Rattle.text.proofs.Pairs.{hex-odd, hex-first, hex-second, hex-both, hex-end}
 use native.Mathlib.Omega.{arith}
 use borrow.Author.Needs.{needs}
-use Rattle.lines.proofs.values.is_hex.Statement.{statement}
-use Rattle.lines.proofs.values.is_hex.Tie as tie
+use Rattle.text.proofs.hex.is_hex.Statement.{statement}
+use Rattle.text.proofs.hex.is_hex.Tie as tie
 
 abbrev Inv-loop : tie.InvT-loop
 Inv-loop s i₀ i = (i ≤ length s) × (isHex s ≡ isHex (drop i s))

@@ -1,16 +1,16 @@
--- `values::read_hex`. The invariant: the bytes left, written behind those written, give the whole.
+-- `hex::read`. The invariant: the bytes left, written behind those written, give the whole.
 -- Assumes nothing.
 use mathlib.Core.Path.{_≡_, refl, ap, sym, _∙_}
 use mathlib.Core.Bool.{true}
 use Prim.Native.Nat.{ℕ, _+_, _*_, _-_, _≤_}
 use lib.ListN.{length, drop, length-set}
 use Rattle.octets.specs.Octets.{writeAt}
-use Rattle.lines.specs.Values.{isHex, bytesOf}
-use Rattle.lines.proofs.Hex.{hex-digits, hex-next, hex-read}
+use Rattle.text.specs.Hex.{isHex, bytesOf}
+use Rattle.text.proofs.Pairs.{hex-digits, hex-next, hex-read}
 use native.Mathlib.Omega.{arith}
 use borrow.Author.Needs.{needs}
-use Rattle.lines.proofs.values.read_hex.Statement.{statement}
-use Rattle.lines.proofs.values.read_hex.Tie as tie
+use Rattle.text.proofs.hex.read.Statement.{statement}
+use Rattle.text.proofs.hex.read.Tie as tie
 
 abbrev Inv-loop : tie.InvT-loop
 Inv-loop s out₀ n i₀ out i = (i ≤ n) × (length out ≡ length out₀) × (isHex (drop (2 * i) s) ≡ true) × (writeAt 0 (bytesOf s) out₀ ≡ writeAt i (bytesOf (drop (2 * i) s)) out)
@@ -83,8 +83,8 @@ same-length c = search needs
 returns : tie.Need-returns Inv-loop μ-loop
 returns c = sym (c .before .loop .inv .3 ∙ hex-read _ _ _ (c .loop-test .left))
 
-pub read-hex-spec : {M : Type 1} → statement M
-read-hex-spec =
+pub read-spec : {M : Type 1} → statement M
+read-spec =
     tie.close
     (tie.spec
     Inv-loop

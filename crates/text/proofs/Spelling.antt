@@ -8,7 +8,7 @@ use native.Mathlib.Omega.{arith}
 use lib.ListN.{length, getD, take, set}
 use lib.Seq.{take-suc, take-suc-set, take-all, lt-length-set}
 use borrow.Author.Tests.{lt-ltb, le-ltb}
-use Rattle.stored.specs.Hex.{glyphOf, hexOf}
+use Rattle.text.specs.Hex.{glyphOf, hexOf}
 
 pub glyph-low : (d : ℕ) → d < 10 → 48 + d ≡ glyphOf d
 glyph-low d h = rw (lt-ltb d 10 h)
@@ -29,13 +29,7 @@ hex-next s b = hex-append s (b ∷ [])
 twice-next : (i : ℕ) → 2 * (i + 1) ≡ suc (suc (2 * i))
 twice-next i = omega arith
 
--- two elements more
-two-more : (s : List ℕ) (j : ℕ) → suc j < length s → take (suc (suc j)) s ≡ take j s ++ (getD s j 0 ∷ getD s (suc j) 0 ∷ [])
-two-more s j h =
-    take-suc s (suc j) 0 h
-    ∙ ap (λ (l : List ℕ). l ++ (getD s (suc j) 0 ∷ [])) (take-suc s j 0 (omega arith))
-    ∙ append-assoc (take j s) (getD s j 0 ∷ []) (getD s (suc j) 0 ∷ [])
-
+-- two elements set
 two-set : (s : List ℕ) (j x y : ℕ) → suc j < length s → take (suc (suc j)) (set (set s j x) (suc j) y) ≡ take j s ++ (x ∷ y ∷ [])
 two-set s j x y h =
     take-suc-set (set s j x) (suc j) y (lt-length-set s j x h)
@@ -55,15 +49,3 @@ spell-next b o i x y h l p q e =
 -- the end of both
 pub hex-end : (b o : List ℕ) (i : ℕ) → length b ≤ i → i ≤ length b → length o ≡ 2 * length b → take (2 * i) o ≡ hexOf (take i b) → o ≡ hexOf b
 hex-end b o i h g l e = sym (take-all (2 * i) o (omega arith)) ∙ e ∙ ap hexOf (take-all i b h)
-
--- a turn of reading: the two digits are those of the byte 16 * x + y
-pub read-next : (s o : List ℕ) (i x y : ℕ) → i < length o → length s ≡ 2 * length o → x < 16 → y < 16
-    → getD s (2 * i) 0 ≡ glyphOf x → getD s (2 * i + 1) 0 ≡ glyphOf y
-    → take (2 * i) s ≡ hexOf (take i o) → take (2 * (i + 1)) s ≡ hexOf (take (i + 1) (set o i (16 * x + y)))
-read-next s o i x y h l hx hy p q e =
-    let n = twice-next i in
-    let q′ = rw (add-one (2 * i)) at q in
-    let k : suc (2 * i) < length s = omega arith in
-    let u : (16 * x + y) / 16 ≡ x = omega arith in
-    let w : (16 * x + y) % 16 ≡ y = omega arith in
-    rw (n, two-more s (2 * i) k, e, p, q′, add-one i, take-suc-set o i (16 * x + y) h, hex-next (take i o) (16 * x + y), u, w)

@@ -1,15 +1,15 @@
--- `replies::put_decimal`: the kit's digits are the number's text.
+-- `number::put_decimal`: the kit's digits are the number's text.
 -- Assumes nothing.
 use mathlib.Core.Path.{_≡_, ap, _∙_}
 use mathlib.Core.List.{List}
 use Prim.Native.Nat.{ℕ, _-_}
 use lib.ListN.{length, take, length-take}
 use Rattle.octets.specs.Octets.{writeAt}
-use Rattle.lines.proofs.Decimals.{spelled-is, few-digits}
+use Rattle.text.proofs.Decimals.{spelled-is, few-digits}
 use native.Mathlib.Omega.{arith}
 use borrow.Author.Needs.{needs}
-use Rattle.lines.proofs.replies.put_decimal.Statement.{statement}
-use Rattle.lines.proofs.replies.put_decimal.Tie as tie
+use Rattle.text.proofs.number.put_decimal.Statement.{statement}
+use Rattle.text.proofs.number.put_decimal.Tie as tie
 
 decimal-requires : tie.Need-decimal-requires
 decimal-requires c κs = search needs

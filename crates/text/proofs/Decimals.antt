@@ -5,11 +5,14 @@ use Prim.Native.Nat.{ℕ, zero, suc, _+_, _-_, _*_, _/_, _%_, _^_, _<_, _≤_}
 use native.Mathlib.Nat.{pow-succ', one-le-pow, pow-le-pow-right}
 use native.Mathlib.Omega.{arith}
 use mathlib.Core.Logic.{⊎-elim}
-use lib.Dec.{lit<}
+use mathlib.Core.List.{[], _∷_, _++_}
+use mathlib.Core.Bool.{Bool, true, false, cond}
+use lib.Dec.{lit<, ltb}
+use lib.ListN.{length, length-append}
 use borrow.Author.Tests.{lt-ltb, le-ltb}
 use Rattle.io.specs.Digits.{glyph, digits, Fewest}
 use Rattle.base.proofs.Tests.{lt-or-le}
-use Rattle.lines.specs.Texts.{spelled}
+use Rattle.text.specs.Text.{spelled}
 
 figure : (n : ℕ) → n < 10 → glyph n ≡ 48 + n
 figure n h = rw (lt-ltb n 10 h)
@@ -44,3 +47,13 @@ few-digits v r h f = ⊎-elim too-many (λ k. k) (lt-or-le 20 r)
         let i : 20 ≤ r - 1 = omega arith in
         let m : 10 ^ 20 ≤ 10 ^ (r - 1) = pow-le-pow-right {n = 10} (lit< tt) i in
         omega (arith, f .2 (omega arith))
+
+-- k digits at most
+pub spelled-few : (k n : ℕ) → length (spelled k n) ≤ k
+unfolding spelled
+spelled-few zero n = omega arith
+spelled-few (suc k) n = go (ltb n 10) (spelled-few k (n / 10))
+  where
+    go : (t : Bool) → length (spelled k (n / 10)) ≤ k → length (cond t ((48 + n) ∷ []) (spelled k (n / 10) ++ ((48 + n % 10) ∷ []))) ≤ suc k
+    go true h = omega arith
+    go false h = simp length-append (omega arith)

@@ -1,9 +1,9 @@
--- `values::digit`, by the ranges of digits.
+-- `hex::digit`, by the ranges of digits.
 -- Assumes nothing.
-use Rattle.lines.proofs.Hex.{below-digits, digit-figure, below-capitals, digit-capital, below-small, digit-small, above-digits}
+use Rattle.text.proofs.Pairs.{below-digits, digit-figure, below-capitals, digit-capital, below-small, digit-small, above-digits}
 use borrow.Author.Needs.{needs}
-use Rattle.lines.proofs.values.digit.Statement.{statement}
-use Rattle.lines.proofs.values.digit.Tie as tie
+use Rattle.text.proofs.hex.digit.Statement.{statement}
+use Rattle.text.proofs.hex.digit.Tie as tie
 
 returns : tie.Need-returns
 returns c = below-digits _ (c .if1 .taken)

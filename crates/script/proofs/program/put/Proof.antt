@@ -10,8 +10,8 @@ use Rattle.lines.proofs.Counts.{text-short}
 use Rattle.script.proofs.Answers.{sub-none, first-written}
 use native.Mathlib.Omega.{arith}
 use borrow.Author.Needs.{needs}
-use Rattle.script.proofs.put.Statement.{statement}
-use Rattle.script.proofs.put.Tie as tie
+use Rattle.script.proofs.program.put.Statement.{statement}
+use Rattle.script.proofs.program.put.Tie as tie
 
 slice-aggregate-print : tie.Need-slice-aggregate-print
 slice-aggregate-print c = search needs

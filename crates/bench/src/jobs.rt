@@ -3,7 +3,6 @@
 ghost use mathlib.Core.Path.{_≡_};
 ghost use Rattle.crc32.specs.Tables.{tablesOf};
 use crate::stage;
-use crate::stage::MEDIUM;
 use crate::turns;
 use cluster::Call;
 use cluster::Entry;
@@ -72,7 +71,7 @@ fn closed(r: Records, m: &mut [u8], tables: &mut [u64]) -> Records {
 pub fn prepare(t: &Tables, m: &mut [u8], tables: &mut [u64], count: u64) -> u64
     requires { ⌜ now t ≡ tablesOf ⌝ }
 {
-    let mut full = [0u8; MEDIUM];
+    let mut full = io::large_buffer();
     let before = stage::filled(t, m, tables, 1000);
     turns::put_by(m, &mut full);
     let ready = closed(before, m, tables);

@@ -12,6 +12,9 @@ Inv-loop t m₀ tables₀ count full ready sum₀ left₀ m tables sum left = (l
 abbrev μ-loop : tie.MeasureT-loop
 μ-loop t m₀ tables₀ count full ready sum₀ left₀ m tables sum left = left
 
+large-buffer-requires : tie.Need-large-buffer-requires Inv-loop μ-loop
+large-buffer-requires c κs = search needs
+
 filled-requires : tie.Need-filled-requires Inv-loop μ-loop
 filled-requires c κs = search needs
 
@@ -60,6 +63,7 @@ prepare-spec =
     (tie.spec
     Inv-loop
     μ-loop
+    large-buffer-requires
     filled-requires
     slice-aggregate-put-by
     put-by-requires

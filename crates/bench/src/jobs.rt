@@ -1,11 +1,8 @@
 // The jobs: each sets a cluster up, and then makes its turn as often as asked. A turn changes a byte that its result does not depend
 // on, or undoes what the turn before did, so that none can be saved.
 ghost use mathlib.Core.Path.{_≡_};
-ghost use lib.ListN.{length};
 ghost use Rattle.crc32.specs.Tables.{tablesOf};
-ghost use Rattle.bench.specs.Sizes.{mediaLength, tablesLength};
 use crate::stage;
-use crate::stage::MEDIUM;
 use crate::turns;
 use cluster::Call;
 use cluster::Entry;
@@ -16,11 +13,11 @@ use fate::Fate;
 use std::num::wrapping_add_u64;
 use storage::operation::Closing;
 
-// The CRC of 64 KB.
-pub fn crc(t: &Tables, m: &mut [u8], count: u64) -> u64
+// The CRC of 64 KB of a fresh cluster's media.
+pub fn crc(t: &Tables, m: &mut [u8], tables: &mut [u64], count: u64) -> u64
     requires { ⌜ now t ≡ tablesOf ⌝ }
-    requires { ⌜ length (now m) ≡ mediaLength ⌝ }
 {
+    stage::begun(t, m, tables);
     let mut sum: u64 = 0;
     let mut left = count;
     while 0 < left {
@@ -31,11 +28,10 @@ pub fn crc(t: &Tables, m: &mut [u8], count: u64) -> u64
 }
 
 // The marks of seven full media.
-pub fn marks(t: &Tables, r: Records, m: &mut [u8], tables: &mut [u64], count: u64) -> u64
+pub fn marks(t: &Tables, m: &mut [u8], tables: &mut [u64], count: u64) -> u64
     requires { ⌜ now t ≡ tablesOf ⌝ }
-    requires { ⌜ length (now m) ≡ mediaLength ⌝ }
 {
-    stage::filled(r, m, tables, 1000);
+    stage::filled(t, m, tables, 1000);
     let mut sum: u64 = 0;
     let mut left = count;
     while 0 < left {
@@ -46,10 +42,10 @@ pub fn marks(t: &Tables, r: Records, m: &mut [u8], tables: &mut [u64], count: u6
 }
 
 // One send of record 1,000 to a replica that holds 999.
-pub fn send(r: Records, m: &mut [u8], tables: &mut [u64], count: u64) -> u64
-    requires { ⌜ length (now m) ≡ mediaLength ⌝ }
+pub fn send(t: &Tables, m: &mut [u8], tables: &mut [u64], count: u64) -> u64
+    requires { ⌜ now t ≡ tablesOf ⌝ }
 {
-    let before = stage::filled(r, m, tables, 999);
+    let before = stage::filled(t, m, tables, 999);
     let ready = stage::issued(before, m, tables);
     let mut sum: u64 = 0;
     let mut left = count;
@@ -62,8 +58,7 @@ pub fn send(r: Records, m: &mut [u8], tables: &mut [u64], count: u64) -> u64
 
 // Server 1 has taken a session in which replica 0 was closed at mark 500.
 fn closed(r: Records, m: &mut [u8], tables: &mut [u64]) -> Records {
-    let o = stage::make(r, m, tables, Call::Take(1, Fate::Answered));
-    let taken = o.records;
+    let taken = stage::after(r, m, tables, Call::Take(1, Fate::Answered));
     let mut s = taken.servers[1];
     s.entries[0] = Entry {
         session: 1,
@@ -73,11 +68,11 @@ fn closed(r: Records, m: &mut [u8], tables: &mut [u64]) -> Records {
 }
 
 // One prepare that cuts a full log of 1,000 to 500; the full medium is put back before each, which counts.
-pub fn prepare(r: Records, m: &mut [u8], tables: &mut [u64], count: u64) -> u64
-    requires { ⌜ length (now m) ≡ mediaLength ⌝ }
+pub fn prepare(t: &Tables, m: &mut [u8], tables: &mut [u64], count: u64) -> u64
+    requires { ⌜ now t ≡ tablesOf ⌝ }
 {
-    let mut full = [0u8; MEDIUM];
-    let before = stage::filled(r, m, tables, 1000);
+    let mut full = io::large_buffer();
+    let before = stage::filled(t, m, tables, 1000);
     turns::put_by(m, &mut full);
     let ready = closed(before, m, tables);
     let mut sum: u64 = 0;
@@ -90,14 +85,15 @@ pub fn prepare(r: Records, m: &mut [u8], tables: &mut [u64], count: u64) -> u64
 }
 
 // One open over seven replicas that all hold 1,000.
-pub fn open(r: Records, m: &mut [u8], tables: &mut [u64], count: u64) -> u64 {
-    let before = stage::filled(r, m, tables, 1000);
+pub fn open(t: &Tables, m: &mut [u8], tables: &mut [u64], count: u64) -> u64
+    requires { ⌜ now t ≡ tablesOf ⌝ }
+{
+    let before = stage::filled(t, m, tables, 1000);
     let ready = stage::prepared(before, m, tables, 1);
     let mut sum: u64 = 0;
     let mut left = count;
     while 0 < left {
-        let o = stage::make(ready, m, tables, Call::Open(1, Fate::Answered));
-        sum = wrapping_add_u64(sum, stage::value(o));
+        sum = wrapping_add_u64(sum, turns::open(ready, m, tables));
         left -= 1;
     }
     sum

@@ -2,10 +2,7 @@
 // depends on every turn. Setting the job up takes the same time whatever the count, so the time of one turn is found by two counts.
 // What stdout must equal comes from the other implementation (twin/src/jobs.rs), which does the same jobs.
 ghost use mathlib.Core.Path.{_≡_};
-ghost use Prim.Native.Nat.{_≤_};
-ghost use lib.ListN.{length};
 ghost use Rattle.crc32.specs.Tables.{tablesOf};
-ghost use Rattle.bench.specs.Sizes.{mediaLength, tablesLength};
 use crate::stage::MEDIA;
 use crate::stage::TABLES;
 use crc32::Tables;
@@ -23,49 +20,56 @@ fn say(text: &[u8]) {
     io::write_all(STDOUT_FILENO, text);
 }
 
-// A job by its name, done so often; false where there is none of this name.
-fn done(t: &Tables, name: &[u8], count: u64, m: &mut [u8], tables: &mut [u64]) -> bool
-    requires { ⌜ now t ≡ tablesOf ⌝ }
-    requires { ⌜ (length (now m) ≡ mediaLength) × (length (now tables) ≡ tablesLength) ⌝ }
-{
-    let r = stage::begun(t, m, tables);
+// A job's number; 5 where there is none of this name.
+fn job(name: &[u8]) -> u64 {
     if check::same(name, b"crc") {
-        return print(jobs::crc(t, m, count));
+        return 0;
     }
     if check::same(name, b"marks") {
-        return print(jobs::marks(t, r, m, tables, count));
+        return 1;
     }
     if check::same(name, b"send") {
-        return print(jobs::send(r, m, tables, count));
+        return 2;
     }
     if check::same(name, b"prepare") {
-        return print(jobs::prepare(r, m, tables, count));
+        return 3;
     }
     if check::same(name, b"open") {
-        return print(jobs::open(r, m, tables, count));
+        return 4;
     }
-    false
+    5
 }
 
-fn print(v: u64) -> bool {
-    io::print_decimal(STDOUT_FILENO, v);
-    true
+// What a job done so often comes to.
+fn total(t: &Tables, job: u64, count: u64, m: &mut [u8], tables: &mut [u64]) -> u64
+    requires { ⌜ now t ≡ tablesOf ⌝ }
+{
+    match job {
+        0 => jobs::crc(t, m, tables, count),
+        1 => jobs::marks(t, m, tables, count),
+        2 => jobs::send(t, m, tables, count),
+        3 => jobs::prepare(t, m, tables, count),
+        _ => jobs::open(t, m, tables, count),
+    }
 }
 
 fn answer(t: &Tables, text: &[u8], m: &mut [u8], tables: &mut [u64]) -> bool
     requires { ⌜ now t ≡ tablesOf ⌝ }
-    requires { ⌜ (length (now m) ≡ mediaLength) × (length (now tables) ≡ tablesLength) ⌝ }
 {
     let Number::Is(count) = number::decimal(line::field(text, 1)) else {
         return false;
     };
-    done(t, line::field(text, 0), count, m, tables)
+    let j = job(line::field(text, 0));
+    if 4 < j {
+        return false;
+    }
+    io::print_decimal(STDOUT_FILENO, total(t, j, count, m, tables));
+    true
 }
 
 // The lines, each ended by a newline.
 fn answer_all(t: &Tables, input: &[u8], m: &mut [u8], tables: &mut [u64])
     requires { ⌜ now t ≡ tablesOf ⌝ }
-    requires { ⌜ (length (now m) ≡ mediaLength) × (length (now tables) ≡ tablesLength) ⌝ }
 {
     let mut i = 0;
     while i < input.len() {
@@ -84,7 +88,6 @@ fn answer_all(t: &Tables, input: &[u8], m: &mut [u8], tables: &mut [u64])
 // All the input is read at once.
 fn run(t: &Tables, m: &mut [u8], tables: &mut [u64])
     requires { ⌜ now t ≡ tablesOf ⌝ }
-    requires { ⌜ (length (now m) ≡ mediaLength) × (length (now tables) ≡ tablesLength) ⌝ }
 {
     let mut input = io::buffer();
     let n = io::read_full(STDIN_FILENO, &mut input);

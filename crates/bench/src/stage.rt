@@ -1,8 +1,6 @@
 // The cluster that the jobs work on: seven replicas of 1,000 places, driven by the eleven calls alone.
 ghost use mathlib.Core.Path.{_≡_};
-ghost use lib.ListN.{length};
 ghost use Rattle.crc32.specs.Tables.{tablesOf};
-ghost use Rattle.bench.specs.Sizes.{mediaLength, tablesLength};
 use cluster::Answer;
 use cluster::Call;
 use cluster::Outcome;
@@ -23,10 +21,16 @@ pub const MEDIA: usize = 448448;
 
 pub const TABLES: usize = 4096;
 
+// A fresh cluster; no call sees what is given where the lengths are not its own.
 pub fn begun(t: &Tables, m: &mut [u8], tables: &mut [u64]) -> Records
     requires { ⌜ now t ≡ tablesOf ⌝ }
-    requires { ⌜ (length (now m) ≡ mediaLength) × (length (now tables) ≡ tablesLength) ⌝ }
 {
+    if m.len() != MEDIA {
+        return fresh::records();
+    }
+    if tables.len() != TABLES {
+        return fresh::records();
+    }
     let shape = Shape {
         replicas: REPLICAS,
         places: PLACES,
@@ -46,6 +50,12 @@ pub fn make(r: Records, m: &mut [u8], tables: &mut [u64], call: Call) -> Outcome
     journal::apply::apply(shape, r, m, tables, call, &data, &none[0..0], &given)
 }
 
+// The records that a call leaves.
+pub fn after(r: Records, m: &mut [u8], tables: &mut [u64], call: Call) -> Records {
+    let o = make(r, m, tables, call);
+    o.records
+}
+
 // The value of an answer, 0 where it has none.
 pub fn value(o: Outcome) -> u64 {
     let a = o.answer;
@@ -57,11 +67,9 @@ pub fn value(o: Outcome) -> u64 {
 
 // A server takes the next session and prepares every replica.
 pub fn prepared(r: Records, m: &mut [u8], tables: &mut [u64], server: u64) -> Records {
-    let o = make(r, m, tables, Call::Take(server, Fate::Answered));
-    let mut next = o.records;
+    let mut next = after(r, m, tables, Call::Take(server, Fate::Answered));
     for i in 0..7 {
-        let o = make(next, m, tables, Call::Prepare(server, i, Fate::Answered));
-        next = o.records;
+        next = after(next, m, tables, Call::Prepare(server, i, Fate::Answered));
     }
     next
 }
@@ -75,25 +83,25 @@ pub fn issued(r: Records, m: &mut [u8], tables: &mut [u64]) -> Records {
         sequence: 3,
         header: 4,
     };
-    let o = make(r, m, tables, Call::Issue(0, q));
-    o.records
+    after(r, m, tables, Call::Issue(0, q))
 }
 
 // Server 0 issues the next record and sends it to every replica.
 fn stored(r: Records, m: &mut [u8], tables: &mut [u64]) -> Records {
     let mut next = issued(r, m, tables);
     for i in 0..7 {
-        let o = make(next, m, tables, Call::Send(0, i, Fate::Answered));
-        next = o.records;
+        next = after(next, m, tables, Call::Send(0, i, Fate::Answered));
     }
     next
 }
 
-// Server 0 opens the first session and stores n records.
-pub fn filled(r: Records, m: &mut [u8], tables: &mut [u64], n: u64) -> Records {
-    let ready = prepared(r, m, tables, 0);
-    let o = make(ready, m, tables, Call::Open(0, Fate::Answered));
-    let mut next = o.records;
+// Server 0 of a fresh cluster opens the first session and stores n records.
+pub fn filled(t: &Tables, m: &mut [u8], tables: &mut [u64], n: u64) -> Records
+    requires { ⌜ now t ≡ tablesOf ⌝ }
+{
+    let fresh = begun(t, m, tables);
+    let ready = prepared(fresh, m, tables, 0);
+    let mut next = after(ready, m, tables, Call::Open(0, Fate::Answered));
     let mut left = n;
     while 0 < left {
         next = stored(next, m, tables);

@@ -10,11 +10,11 @@ use Rattle.cluster.specs.declared.Call.the-variants as call
 use Rattle.text.specs.declared.number.Number.{Number}
 use Rattle.text.specs.declared.number.Number.the-variants.{Is, Unfit}
 use Rattle.text.specs.Text.{fieldOf, numberOf}
-use Rattle.lines.specs.declared.values.Told.{Told}
-use Rattle.lines.specs.declared.values.Told.the-variants as told
+use Rattle.lines.specs.declared.values.FateField.{FateField}
+use Rattle.lines.specs.declared.values.FateField.the-variants as field
 use Rattle.lines.specs.Words.{clusterWord, takeWord, prepWord, copyWord, openWord, sendWord}
 use Rattle.lines.specs.Values.{fateOf}
-use Rattle.lines.specs.Forms.{Meaning, bad, asked, number, fate, numberAt, fateAt, clusterForm, serverFate, serverReplicaFate, copyForm, begins, plainForm, dataOf, locksOf}
+use Rattle.lines.specs.Forms.{Meaning, bad, asked, number, fate, numberAt, fateAt, clusterForm, serverFate, serverReplicaFate, copyForm, begins, fromSend, fromOpen, fromCopy, fromPrepare, fromTake, plainForm, dataOf, locksOf}
 
 pub record Bare (m : Meaning) : Type 0 where
   pub content : dataOf m ≡ []
@@ -41,9 +41,9 @@ module _ (s : List ℕ) where
   with-fate : (i : ℕ) (k : Fate → Meaning) → ((f : Fate) → Bare (k f)) → Bare (fateAt i s k)
   with-fate i k b = go (fateOf (numberOf (fieldOf i s)))
     where
-      go : (t : Told) → Bare (fate t k)
-      go told.Unfit = none
-      go (told.Is f) = b f
+      go : (t : FateField) → Bare (fate t k)
+      go field.Unfit = none
+      go (field.Is f) = b f
 
   cluster-bare : Bare (clusterForm s)
   unfolding clusterForm
@@ -60,7 +60,7 @@ module _ (s : List ℕ) where
   copy-bare = with-number 1 _ (λ v. with-number 2 _ (λ a. with-number 3 _ (λ b. with-fate 4 _ (λ f. no-more _))))
 
   pub plain-bare : Bare (plainForm s)
-  unfolding plainForm
+  unfolding plainForm fromTake fromPrepare fromCopy fromOpen fromSend
   plain-bare =
       either (begins s clusterWord 3) _ _ cluster-bare
       (either (begins s takeWord 3) _ _ (one-bare call.Take)

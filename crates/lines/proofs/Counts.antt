@@ -1,11 +1,9 @@
 -- The counts that a call's line answers are within the buffers, and a reply within its longest.
 -- Assumes nothing.
 use mathlib.Core.Path.{_≡_, ap}
-use mathlib.Core.List.{List, [], _∷_, _++_}
-use mathlib.Core.Bool.{Bool, true, false, cond}
-use Prim.Native.Nat.{ℕ, zero, suc, _+_, _/_, _%_, _≤_}
+use mathlib.Core.List.{List, [], _∷_}
+use Prim.Native.Nat.{ℕ, _≤_}
 use native.Mathlib.Omega.{arith}
-use lib.Dec.{ltb}
 use lib.ListN.{length, length-append}
 use Rattle.octets.specs.Octets.{writeAt}
 use Rattle.cluster.specs.declared.Call.{Call}
@@ -16,7 +14,8 @@ use Rattle.lines.specs.declared.replies.Printed.the-variants as printed
 use Rattle.lines.specs.declared.forms.Line.{Line}
 use Rattle.lines.specs.declared.forms.Line.the-variants as line
 use Rattle.lines.specs.Forms.{Meaning, bad, cluster, asked, lineOf, dataOf, locksOf}
-use Rattle.lines.specs.Texts.{spelled, tagged, textOf}
+use Rattle.text.proofs.Decimals.{spelled-few}
+use Rattle.lines.specs.Texts.{tagged, textOf}
 
 -- a write is no longer than what it leaves
 write-within : (a l e : List ℕ) → e ≡ writeAt 0 a l → length a ≤ length e
@@ -32,15 +31,6 @@ counted (asked c′ ds ls) r c d k x y u v e g =
     (omega (arith, write-within ds x y (g .1 .0)), omega (arith, write-within ls u v (g .1 .1)))
 
 -- ---- replies
-
-spelled-few : (k n : ℕ) → length (spelled k n) ≤ k
-unfolding spelled
-spelled-few zero n = omega arith
-spelled-few (suc k) n = go (ltb n 10) (spelled-few k (n / 10))
-  where
-    go : (t : Bool) → length (spelled k (n / 10)) ≤ k → length (cond t ((48 + n) ∷ []) (spelled k (n / 10) ++ ((48 + n % 10) ∷ []))) ≤ suc k
-    go true h = omega arith
-    go false h = simp length-append (omega arith)
 
 tagged-short : (a b n : ℕ) → length (tagged (a ∷ b ∷ []) n) ≤ 24
 tagged-short a b n = simp length-append (omega (arith, spelled-few 20 n))

@@ -2,6 +2,7 @@
 -- prep server replica fate; copy server a b fate; open server fate; issue server client-mark generation header data-hex and then
 -- each lock; send server replica fate."
 -- Assumes nothing.
+use mathlib.Core.Path.{_≡_}
 use mathlib.Core.List.{List, []}
 use mathlib.Core.Bool.{Bool, cond, _&&_}
 use Prim.Native.Nat.{ℕ, _-_}
@@ -16,8 +17,8 @@ use Rattle.text.specs.declared.number.Number.the-variants.{Is, Unfit}
 use Rattle.text.specs.declared.number.Word.{Word}
 use Rattle.text.specs.declared.number.Word.the-variants as word
 use Rattle.text.specs.Text.{afterOf, fieldOf, fieldCount, numberOf, wordOf}
-use Rattle.lines.specs.declared.values.Told.{Told}
-use Rattle.lines.specs.declared.values.Told.the-variants as told
+use Rattle.lines.specs.declared.values.FateField.{FateField}
+use Rattle.lines.specs.declared.values.FateField.the-variants as field
 use Rattle.lines.specs.declared.forms.Line.{Line}
 use Rattle.lines.specs.declared.forms.Line.the-variants as line
 use Rattle.lines.specs.declared.forms.One.{One}
@@ -27,7 +28,8 @@ use Rattle.lines.specs.declared.forms.Two.the-variants as two
 use Rattle.lines.specs.declared.forms.Head.{Head}
 use Rattle.lines.specs.declared.forms.Head.the-variants as head
 use Rattle.lines.specs.Words.{same, clusterWord, takeWord, prepWord, copyWord, openWord, issueWord, sendWord}
-use Rattle.lines.specs.Values.{fateOf, isHex, bytesOf, allNumbers, numbersOf}
+use Rattle.text.specs.Hex.{isHex, bytesOf}
+use Rattle.lines.specs.Values.{fateOf, allNumbers, numbersOf}
 
 -- what a line asks for: nothing ("prints bad and does nothing"), a fresh cluster of R and N, or a call with its data and locks
 pub data Meaning : Type 0 where
@@ -46,9 +48,9 @@ abbrev pub short : Word → (ℕ → Meaning) → Meaning
 short word.Unfit k = bad
 short (word.Is v) k = k v
 
-abbrev pub fate : Told → (Fate → Meaning) → Meaning
-fate told.Unfit k = bad
-fate (told.Is f) k = k f
+abbrev pub fate : FateField → (Fate → Meaning) → Meaning
+fate field.Unfit k = bad
+fate (field.Is f) k = k f
 
 abbrev pub numberAt : ℕ → List ℕ → (ℕ → Meaning) → Meaning
 numberAt i s k = number (numberOf (fieldOf i s)) k
@@ -101,15 +103,27 @@ issueForm s = requestThen s (dataThen s)
 abbrev pub begins : List ℕ → List ℕ → ℕ → Bool
 begins s w n = same (fieldOf 0 s) w && eqb (fieldCount s) n
 
--- the forms that have their number of fields
+-- the forms that have their number of fields, in links: a line that does not begin as one asks may be of the next
+abbrev pub tried : List ℕ → List ℕ → ℕ → Meaning → Meaning → Meaning
+tried s w n form next = cond (begins s w n) form next
+
+unfoldable pub fromSend : List ℕ → Meaning
+fromSend s = tried s sendWord 4 (serverReplicaFate s call.Send) bad
+
+unfoldable pub fromOpen : List ℕ → Meaning
+fromOpen s = tried s openWord 3 (serverFate s call.Open) (fromSend s)
+
+unfoldable pub fromCopy : List ℕ → Meaning
+fromCopy s = tried s copyWord 5 (copyForm s) (fromOpen s)
+
+unfoldable pub fromPrepare : List ℕ → Meaning
+fromPrepare s = tried s prepWord 4 (serverReplicaFate s call.Prepare) (fromCopy s)
+
+unfoldable pub fromTake : List ℕ → Meaning
+fromTake s = tried s takeWord 3 (serverFate s call.Take) (fromPrepare s)
+
 unfoldable pub plainForm : List ℕ → Meaning
-plainForm s =
-    cond (begins s clusterWord 3) (clusterForm s)
-    (cond (begins s takeWord 3) (serverFate s call.Take)
-    (cond (begins s prepWord 4) (serverReplicaFate s call.Prepare)
-    (cond (begins s copyWord 5) (copyForm s)
-    (cond (begins s openWord 3) (serverFate s call.Open)
-    (cond (begins s sendWord 4) (serverReplicaFate s call.Send) bad)))))
+plainForm s = tried s clusterWord 3 (clusterForm s) (fromTake s)
 
 -- issue has six fields, and then each lock
 unfoldable pub formOf : List ℕ → Meaning
@@ -138,6 +152,11 @@ abbrev pub locksOf : Meaning → List ℕ
 locksOf bad = []
 locksOf (cluster r n) = []
 locksOf (asked c d l) = l
+
+-- the first field of a line and the number of its fields, as they are handed from link to link
+pub record Split (s w : List ℕ) (n : ℕ) : Type 0 where
+  pub word : w ≡ fieldOf 0 s
+  pub count : n ≡ fieldCount s
 
 -- ---- and the parts of a line that several forms share, as the code gives them
 

@@ -2,23 +2,12 @@
 -- value, no and the number, or silent", "prints bad".
 -- Assumes nothing.
 use mathlib.Core.List.{List, [], _∷_, _++_}
-use mathlib.Core.Bool.{cond}
-use Prim.Native.Nat.{ℕ, zero, suc, _+_, _/_, _%_}
-use lib.Dec.{ltb}
+use Prim.Native.Nat.{ℕ}
 use Rattle.cluster.specs.Replies.{Reply, ok, no, silent, replyOf}
-use Rattle.text.specs.Text.{tab}
+use Rattle.text.specs.Text.{tab, decimalOf}
 use Rattle.lines.specs.declared.replies.Printed.{Printed}
 use Rattle.lines.specs.declared.replies.Printed.the-variants as printed
 use Rattle.lines.specs.Words.{okText, noText, silentText, badText, newline}
-
--- a number's digits in base ten, of which there are k at most
-unfoldable pub spelled : ℕ → ℕ → List ℕ
-spelled zero n = []
-spelled (suc k) n = cond (ltb n 10) ((48 + n) ∷ []) (spelled k (n / 10) ++ ((48 + n % 10) ∷ []))
-
--- 20 digits hold a number of 64 bits
-abbrev pub decimalOf : ℕ → List ℕ
-decimalOf n = spelled 20 n
 
 -- a word, a tab, a number and a newline
 abbrev pub tagged : List ℕ → ℕ → List ℕ

@@ -8,14 +8,15 @@ ghost use Rattle.octets.specs.Octets.{writeAt};
 ghost use Rattle.fate.specs.declared.Fate.{Fate as AFate};
 ghost use Rattle.cluster.specs.declared.Call.{Call as ACall};
 ghost use Rattle.cluster.specs.declared.Request.{Request as ARequest};
-ghost use Rattle.text.specs.Text.{fieldOf, fieldCount};
+ghost use Rattle.text.specs.Text.{fieldCount};
 ghost use Rattle.lines.specs.Words.{same};
-ghost use Rattle.lines.specs.Forms.{Meaning, clusterForm, serverFate, serverReplicaFate, copyForm, requestThen, dataThen, issueForm, plainForm, meaningOf, lineLimit, lineOf, dataOf, locksOf, oneThen, twoThen, headThen};
+ghost use Rattle.lines.specs.Forms.{Meaning, clusterForm, serverFate, serverReplicaFate, copyForm, requestThen, dataThen, issueForm, fromSend, fromOpen, fromCopy, fromPrepare, fromTake, plainForm, meaningOf, lineLimit, Split, lineOf, dataOf, locksOf, oneThen, twoThen, headThen};
 use crate::values;
-use crate::values::Told;
+use crate::values::FateField;
 use cluster::Call;
 use cluster::Request;
 use fate::Fate;
+use text::hex;
 use text::line;
 use text::number::Number;
 use text::number::Word;
@@ -67,7 +68,7 @@ fn server_fate(line: &[u8]) -> One
     let Number::Is(server) = values::number_at(line, 1) else {
         return One::Unfit;
     };
-    let Told::Is(f) = values::fate_at(line, 2) else {
+    let FateField::Is(f) = values::fate_at(line, 2) else {
         return One::Unfit;
     };
     One::Are(server, f)
@@ -82,7 +83,7 @@ fn server_replica_fate(line: &[u8]) -> Two
     let Number::Is(i) = values::number_at(line, 2) else {
         return Two::Unfit;
     };
-    let Told::Is(f) = values::fate_at(line, 3) else {
+    let FateField::Is(f) = values::fate_at(line, 3) else {
         return Two::Unfit;
     };
     Two::Are(server, i, f)
@@ -100,7 +101,7 @@ fn copy(line: &[u8]) -> Line
     let Number::Is(b) = values::number_at(line, 3) else {
         return Line::Bad;
     };
-    let Told::Is(f) = values::fate_at(line, 4) else {
+    let FateField::Is(f) = values::fate_at(line, 4) else {
         return Line::Bad;
     };
     Line::Asked(Call::Copy(server, a, b, f), 0, 0)
@@ -153,7 +154,7 @@ fn beside(
     ensures { λ _. ⌜ now (locks .exit) ≡ writeAt 0 (locksOf (dataThen (now (line .entry)) server q)) (now (locks .entry)) ⌝ }
 {
     let digits = line::field(line, 5);
-    if !values::is_hex(digits) {
+    if !hex::is_hex(digits) {
         return Line::Bad;
     }
     let k = n - 6;
@@ -161,7 +162,7 @@ fn beside(
     if !values::all_numbers(rest, k) {
         return Line::Bad;
     }
-    values::read_hex(digits, content);
+    hex::read(digits, content);
     values::read_numbers(rest, k, locks);
     Line::Asked(Call::Issue(server, q), digits.len() / 2, k)
 }
@@ -192,67 +193,79 @@ fn is(word: &[u8], w: &[u8], n: usize, fields: usize) -> bool
     n == fields
 }
 
-fn take(line: &[u8]) -> Line
-    ensures { λ r. ⌜ r ≡ lineOf (serverFate (now (line .entry)) ACall.Take) ⌝ }
-{
-    let One::Are(server, f) = server_fate(line) else {
-        return Line::Bad;
-    };
-    Line::Asked(Call::Take(server, f), 0, 0)
-}
+// ---- The forms that have their number of fields, in links: each tries one form and hands the line on to the next. A line has n
+// fields, the first of them word.
 
-fn open(line: &[u8]) -> Line
-    ensures { λ r. ⌜ r ≡ lineOf (serverFate (now (line .entry)) ACall.Open) ⌝ }
+fn from_send(line: &[u8], word: &[u8], n: usize) -> Line
+    requires { ⌜ Split (now line) (now word) n ⌝ }
+    ensures { λ r. ⌜ r ≡ lineOf (fromSend (now (line .entry))) ⌝ }
 {
-    let One::Are(server, f) = server_fate(line) else {
+    if !is(word, b"send", n, 4) {
         return Line::Bad;
-    };
-    Line::Asked(Call::Open(server, f), 0, 0)
-}
-
-fn prepare(line: &[u8]) -> Line
-    ensures { λ r. ⌜ r ≡ lineOf (serverReplicaFate (now (line .entry)) ACall.Prepare) ⌝ }
-{
-    let Two::Are(server, i, f) = server_replica_fate(line) else {
-        return Line::Bad;
-    };
-    Line::Asked(Call::Prepare(server, i, f), 0, 0)
-}
-
-fn send(line: &[u8]) -> Line
-    ensures { λ r. ⌜ r ≡ lineOf (serverReplicaFate (now (line .entry)) ACall.Send) ⌝ }
-{
+    }
     let Two::Are(server, i, f) = server_replica_fate(line) else {
         return Line::Bad;
     };
     Line::Asked(Call::Send(server, i, f), 0, 0)
 }
 
-// A line of n fields, the first of them word, that is no issue.
+fn from_open(line: &[u8], word: &[u8], n: usize) -> Line
+    requires { ⌜ Split (now line) (now word) n ⌝ }
+    ensures { λ r. ⌜ r ≡ lineOf (fromOpen (now (line .entry))) ⌝ }
+{
+    if !is(word, b"open", n, 3) {
+        return from_send(line, word, n);
+    }
+    let One::Are(server, f) = server_fate(line) else {
+        return Line::Bad;
+    };
+    Line::Asked(Call::Open(server, f), 0, 0)
+}
+
+fn from_copy(line: &[u8], word: &[u8], n: usize) -> Line
+    requires { ⌜ Split (now line) (now word) n ⌝ }
+    ensures { λ r. ⌜ r ≡ lineOf (fromCopy (now (line .entry))) ⌝ }
+{
+    if !is(word, b"copy", n, 5) {
+        return from_open(line, word, n);
+    }
+    copy(line)
+}
+
+fn from_prepare(line: &[u8], word: &[u8], n: usize) -> Line
+    requires { ⌜ Split (now line) (now word) n ⌝ }
+    ensures { λ r. ⌜ r ≡ lineOf (fromPrepare (now (line .entry))) ⌝ }
+{
+    if !is(word, b"prep", n, 4) {
+        return from_copy(line, word, n);
+    }
+    let Two::Are(server, i, f) = server_replica_fate(line) else {
+        return Line::Bad;
+    };
+    Line::Asked(Call::Prepare(server, i, f), 0, 0)
+}
+
+fn from_take(line: &[u8], word: &[u8], n: usize) -> Line
+    requires { ⌜ Split (now line) (now word) n ⌝ }
+    ensures { λ r. ⌜ r ≡ lineOf (fromTake (now (line .entry))) ⌝ }
+{
+    if !is(word, b"take", n, 3) {
+        return from_prepare(line, word, n);
+    }
+    let One::Are(server, f) = server_fate(line) else {
+        return Line::Bad;
+    };
+    Line::Asked(Call::Take(server, f), 0, 0)
+}
+
 fn plain(line: &[u8], word: &[u8], n: usize) -> Line
-    requires { ⌜ now word ≡ fieldOf 0 (now line) ⌝ }
-    requires { ⌜ n ≡ fieldCount (now line) ⌝ }
+    requires { ⌜ Split (now line) (now word) n ⌝ }
     ensures { λ r. ⌜ r ≡ lineOf (plainForm (now (line .entry))) ⌝ }
 {
-    if is(word, b"cluster", n, 3) {
-        return cluster_line(line);
+    if !is(word, b"cluster", n, 3) {
+        return from_take(line, word, n);
     }
-    if is(word, b"take", n, 3) {
-        return take(line);
-    }
-    if is(word, b"prep", n, 4) {
-        return prepare(line);
-    }
-    if is(word, b"copy", n, 5) {
-        return copy(line);
-    }
-    if is(word, b"open", n, 3) {
-        return open(line);
-    }
-    if is(word, b"send", n, 4) {
-        return send(line);
-    }
-    Line::Bad
+    cluster_line(line)
 }
 
 // What the line asks for. Data and locks of an issue are put at the start of the two buffers; any other line leaves them as they were.

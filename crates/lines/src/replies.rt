@@ -1,13 +1,15 @@
 // The text of a reply.
 ghost use mathlib.Core.Path.{_≡_};
-ghost use Prim.Native.Nat.{_+_, _≤_};
+ghost use Prim.Native.Nat.{_≤_};
 ghost use mathlib.Core.List.{[], _∷_, _++_};
 ghost use lib.ListN.{length};
 ghost use Rattle.octets.specs.Octets.{writeAt};
 ghost use Rattle.cluster.specs.Replies.{numberOf, replyOf};
-ghost use Rattle.lines.specs.Texts.{decimalOf, replyText, textOf};
+ghost use Rattle.text.specs.Text.{decimalOf};
+ghost use Rattle.lines.specs.Texts.{replyText, textOf};
 use cluster::Answer;
 use cluster::Refusal;
+use text::number;
 
 // What is printed for a line: that it is bad, or the answer to it.
 pub enum Printed {
@@ -18,19 +20,6 @@ pub enum Printed {
 // The longest text: a word of two letters, a tab, 20 digits and the newline.
 pub const LONGEST: usize = 24;
 
-// A number's digits at an offset, and how many there are.
-fn put_decimal(out: &mut [u8], at: usize, v: u64) -> usize
-    requires { ⌜ at + 20 ≤ length (now out) ⌝ }
-    ensures { λ r. ⌜ r ≤ 20 ⌝ }
-    ensures { λ r. ⌜ r ≡ length (decimalOf v) ⌝ }
-    ensures { λ _. ⌜ now (out .exit) ≡ writeAt at (decimalOf v) (now (out .entry)) ⌝ }
-{
-    let mut digits = [0u8; 20];
-    let n = io::decimal(v, &mut digits);
-    octets::put(out, at, &digits[0..n]);
-    n
-}
-
 // A word with its tab, a number and the newline.
 fn put_tagged(out: &mut [u8], word: &[u8], v: u64) -> usize
     requires { ⌜ length (now word) ≡ 3 ⌝ }
@@ -39,7 +28,7 @@ fn put_tagged(out: &mut [u8], word: &[u8], v: u64) -> usize
     ensures { λ _. ⌜ now (out .exit) ≡ writeAt 0 (now (word .entry) ++ (decimalOf v ++ (10 ∷ []))) (now (out .entry)) ⌝ }
 {
     octets::put(out, 0, word);
-    let n = put_decimal(out, 3, v);
+    let n = number::put_decimal(out, 3, v);
     octets::put(out, 3 + n, b"\n");
     n + 4
 }

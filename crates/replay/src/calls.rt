@@ -5,7 +5,7 @@ use crate::fields;
 use cluster::Call;
 use cluster::Request;
 use stored::fates;
-use stored::fates::Told;
+use stored::fates::FateField;
 use text::line;
 use text::number;
 use text::number::Word;
@@ -16,18 +16,18 @@ pub enum Asked {
 }
 
 // The fate behind n numbers, if the line has just these fields.
-fn fate_behind(line: &[u8], n: usize) -> Told
+fn fate_behind(line: &[u8], n: usize) -> FateField
     requires { ⌜ n ≤ 3 ⌝ }
 {
     if !fields::fit(line, n + 4, n + 3) {
-        return Told::Unfit;
+        return FateField::Unfit;
     }
     fates::read(line, n + 1)
 }
 
 // take, server, FATE.
 fn take(line: &[u8]) -> Asked {
-    let Told::Is(f) = fate_behind(line, 1) else {
+    let FateField::Is(f) = fate_behind(line, 1) else {
         return Asked::Unfit;
     };
     Asked::Is(Call::Take(fields::at(line, 1), f))
@@ -35,7 +35,7 @@ fn take(line: &[u8]) -> Asked {
 
 // prepare, server, replica, FATE.
 fn prepare(line: &[u8]) -> Asked {
-    let Told::Is(f) = fate_behind(line, 2) else {
+    let FateField::Is(f) = fate_behind(line, 2) else {
         return Asked::Unfit;
     };
     Asked::Is(Call::Prepare(fields::at(line, 1), fields::at(line, 2), f))
@@ -43,7 +43,7 @@ fn prepare(line: &[u8]) -> Asked {
 
 // copy, server, from, to, FATE.
 fn copy(line: &[u8]) -> Asked {
-    let Told::Is(f) = fate_behind(line, 3) else {
+    let FateField::Is(f) = fate_behind(line, 3) else {
         return Asked::Unfit;
     };
     Asked::Is(Call::Copy(
@@ -56,7 +56,7 @@ fn copy(line: &[u8]) -> Asked {
 
 // trim, server, replica, FATE.
 fn trim(line: &[u8]) -> Asked {
-    let Told::Is(f) = fate_behind(line, 2) else {
+    let FateField::Is(f) = fate_behind(line, 2) else {
         return Asked::Unfit;
     };
     Asked::Is(Call::Trim(fields::at(line, 1), fields::at(line, 2), f))
@@ -64,7 +64,7 @@ fn trim(line: &[u8]) -> Asked {
 
 // open, server, FATE.
 fn open(line: &[u8]) -> Asked {
-    let Told::Is(f) = fate_behind(line, 1) else {
+    let FateField::Is(f) = fate_behind(line, 1) else {
         return Asked::Unfit;
     };
     Asked::Is(Call::Open(fields::at(line, 1), f))
@@ -116,7 +116,7 @@ fn issue(line: &[u8]) -> Asked {
 
 // send, server, replica, FATE.
 fn send(line: &[u8]) -> Asked {
-    let Told::Is(f) = fate_behind(line, 2) else {
+    let FateField::Is(f) = fate_behind(line, 2) else {
         return Asked::Unfit;
     };
     Asked::Is(Call::Send(fields::at(line, 1), fields::at(line, 2), f))
@@ -124,7 +124,7 @@ fn send(line: &[u8]) -> Asked {
 
 // note, server, replica, FATE.
 fn note(line: &[u8]) -> Asked {
-    let Told::Is(f) = fate_behind(line, 2) else {
+    let FateField::Is(f) = fate_behind(line, 2) else {
         return Asked::Unfit;
     };
     Asked::Is(Call::Note(fields::at(line, 1), fields::at(line, 2), f))
@@ -132,7 +132,7 @@ fn note(line: &[u8]) -> Asked {
 
 // read, server, replica, ID, FATE.
 fn read_place(line: &[u8]) -> Asked {
-    let Told::Is(f) = fate_behind(line, 3) else {
+    let FateField::Is(f) = fate_behind(line, 3) else {
         return Asked::Unfit;
     };
     Asked::Is(Call::Read(

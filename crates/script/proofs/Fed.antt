@@ -9,15 +9,18 @@ use native.Mathlib.Omega.{arith}
 use lib.Dec.{eqb}
 use lib.ListN.{length, take, drop, length-take, length-drop, length-append, drop-of-length-le}
 use lib.Seq.{take-length, take-at, take-append-add, length-take-le, drop-drop}
+use borrow.Author.Tests.{eq-eqb, ne-eqb}
 use Rattle.base.proofs.Tests.{lt-or-le}
 use Rattle.bytes.specs.Bytes.{indexAfter, indexOf, slice}
 use Rattle.octets.specs.Octets.{writeAt}
 use Rattle.lines.specs.Words.{newline}
 use Rattle.lines.specs.Forms.{meaningOf}
+use Rattle.lines.specs.Texts.{textOf}
 use Rattle.script.specs.declared.answer.Held.{Held}
 use Rattle.script.specs.Shapes.{lineRoom}
-use Rattle.script.specs.Answers.{After, answerTo, Leaves}
-use Rattle.script.specs.Input.{Program, withLine, grown, left, ended, fed, programOf}
+use Rattle.script.specs.declared.answer.Next.{Next}
+use Rattle.script.specs.Answers.{After, afterOf, answerTo}
+use Rattle.script.specs.Input.{Program, withLine, grown, left, ended, fed, closed, programOf}
 
 -- ---- lists
 
@@ -39,11 +42,11 @@ take-again (suc n) (x ∷ xs) ys = ap (λ (r : List ℕ). x ∷ r) (take-again n
 -- ---- a line, up to its newline or to the end
 
 same-line : (p : Program) → length (p .line) ≤ lineRoom → withLine p (p .line ++ []) ≡ p
-same-line p h = ap (λ (l : List ℕ). record { line = l; held = p .held; media = p .media; tables = p .tables }) (ap (take lineRoom) (append-nil (p .line)) ∙ take-all lineRoom (p .line) h)
+same-line p h = ap (λ (l : List ℕ). record { line = l; held = p .held; media = p .media; tables = p .tables; out = p .out }) (ap (take lineRoom) (append-nil (p .line)) ∙ take-all lineRoom (p .line) h)
 
 grown-more : (p : Program) (b : ℕ) (bs : List ℕ) → withLine (grown p b) (grown p b .line ++ bs) ≡ withLine p (p .line ++ (b ∷ bs))
 grown-more p b bs =
-    ap (λ (l : List ℕ). record { line = l; held = p .held; media = p .media; tables = p .tables })
+    ap (λ (l : List ℕ). record { line = l; held = p .held; media = p .media; tables = p .tables; out = p .out })
     (take-again lineRoom (p .line ++ (b ∷ [])) bs ∙ ap (take lineRoom) (append-assoc (p .line) (b ∷ []) bs))
 
 grown-short : (p : Program) (b : ℕ) → length (grown p b .line) ≤ lineRoom
@@ -129,10 +132,22 @@ module _ (n m : ℕ) (line after s : List ℕ) (room : length line ≡ lineRoom)
       ∙ sym (take-append-add front s (length line - n))
       ∙ ap (λ (x : ℕ). take x (front ++ s)) (sym z)
 
--- a line answered: the program that `reply` leaves
-pub answered-line : (p : Program) (h : Held) (line m tables : List ℕ) → Leaves (answerTo (meaningOf (p .line)) (p .held) (p .media) (p .tables)) h m tables
-    → programOf 0 h line m tables ≡ ended p
-answered-line p h line m tables e = sym (ap₂ (λ (x : Held) (y : List ℕ × List ℕ). record { line = []; held = x; media = y .0; tables = y .1 }) (e .0) (ap₂ (λ (a b : List ℕ). (a, b)) (e .1) (e .2)))
+-- a line answered: the program that `reply` leaves, of what `answer` gave
+module _ (n o o′ : ℕ) (h : Held) (line m tables out m′ tables′ out′ : List ℕ) (x : Next) where
+  behind : o ≤ length out → o′ ≡ o + length (textOf (x .printed)) → out′ ≡ writeAt o (textOf (x .printed)) out → take o′ out′ ≡ take o out ++ textOf (x .printed)
+  unfolding writeAt
+  behind r k w =
+      let bs = textOf (x .printed) in
+      ap₂ take k w
+      ∙ ap (take (o + length bs)) (sym (append-assoc (take o out) bs (drop (o + length bs) out)))
+      ∙ take-at (take o out ++ bs) _ (o + length bs) (length-append (take o out) bs ∙ ap (λ (y : ℕ). y + length bs) (length-take-le o out r))
+
+  pub answered-line : o ≤ length out → afterOf x m′ tables′ ≡ answerTo (meaningOf (take n line)) h m tables
+      → o′ ≡ o + length (textOf (x .printed)) → out′ ≡ writeAt o (textOf (x .printed)) out
+      → programOf 0 o′ (x .held) line m′ tables′ out′ ≡ ended (programOf n o h line m tables out)
+  answered-line r e k w =
+      ap (λ (l : List ℕ). record { line = []; held = x .held; media = m′; tables = tables′; out = l }) (behind r k w)
+      ∙ ap (left (programOf n o h line m tables out)) e
 
 -- ---- the turns, in what the running program holds
 
@@ -141,26 +156,39 @@ unfolding fed
 fed-none p s i h = ap (fed p) (drop-of-length-le s h)
 
 module _ (chunk : List ℕ) (i j : ℕ) (lo : i ≤ length chunk) (e : j ≡ i + indexOf newline (slice i (length chunk) chunk))
-    (n k : ℕ) (h : Held) (line after m tables : List ℕ) (room : length line ≡ lineRoom) (small : n ≤ length line)
+    (n o k : ℕ) (h : Held) (line after m tables out : List ℕ) (room : length line ≡ lineRoom) (small : n ≤ length line)
     (f : k ≡ n + min (length (take (j - i) (drop i chunk))) (length line - n))
     (g : after ≡ writeAt n (take (min (length (take (j - i) (drop i chunk))) (length line - n)) (take (j - i) (drop i chunk))) line) where
   abbrev before : Program
-  before = programOf n h line m tables
+  before = programOf n o h line m tables out
 
   short : length (take n line) ≤ lineRoom
   short = omega (arith, length-take n line)
 
-  kept-line : withLine before (take n line ++ take (j - i) (drop i chunk)) ≡ programOf k h after m tables
+  kept-line : withLine before (take n line ++ take (j - i) (drop i chunk)) ≡ programOf k o h after m tables out
   kept-line =
-      ap (λ (l : List ℕ). record { line = l; held = h; media = m; tables = tables }) (sym (held-more n k line after (take (j - i) (drop i chunk)) room small f g))
+      ap (λ (l : List ℕ). record { line = l; held = h; media = m; tables = tables; out = take o out }) (sym (held-more n k line after (take (j - i) (drop i chunk)) room small f g))
 
-  pub end-turn : j ≡ length chunk → fed before (drop i chunk) ≡ programOf k h after m tables
+  pub end-turn : j ≡ length chunk → fed before (drop i chunk) ≡ programOf k o h after m tables out
   end-turn x = at-end chunk i j lo e before short x ∙ kept-line
 
-  pub line-turn : (z : ℕ) (h′ : Held) (m′ tables′ : List ℕ) → j < length chunk → z ≡ 0
-      → Leaves (answerTo (meaningOf (take k after)) h m tables) h′ m′ tables′
-      → fed before (drop i chunk) ≡ fed (programOf z h′ after m′ tables′) (drop (j + 1) chunk)
-  line-turn z h′ m′ tables′ x o l =
-      at-newline chunk i j lo e before short x ∙ ap (λ (p : Program). fed (ended p) (drop (j + 1) chunk)) kept-line
-      ∙ ap (λ (p : Program). fed p (drop (j + 1) chunk))
-      (sym (answered-line (programOf k h after m tables) h′ after m′ tables′ l) ∙ ap (λ (y : ℕ). programOf y h′ after m′ tables′) (sym o))
+  pub line-turn : (p : Program) → j < length chunk → p ≡ ended (programOf k o h after m tables out) → fed before (drop i chunk) ≡ fed p (drop (j + 1) chunk)
+  line-turn p x q =
+      at-newline chunk i j lo e before short x
+      ∙ ap (λ (p : Program). fed (ended p) (drop (j + 1) chunk)) kept-line
+      ∙ ap (λ (p : Program). fed p (drop (j + 1) chunk)) (sym q)
+
+-- ---- the end of the input
+
+module _ (n o : ℕ) (h : Held) (line m tables out : List ℕ) (r : n ≤ length line) where
+  abbrev last : Program
+  last = programOf n o h line m tables out
+
+  count : length (take n line) ≡ n
+  count = length-take-le n line r
+
+  pub closed-none : n ≡ 0 → last ≡ closed last
+  closed-none z = sym (ap (λ (b : Bool). cond b last (ended last)) (eq-eqb (length (take n line)) 0 (count ∙ z)))
+
+  pub closed-line : (p : Program) → (n ≡ 0 → ⊥) → p ≡ ended last → p ≡ closed last
+  closed-line p z q = q ∙ sym (ap (λ (b : Bool). cond b last (ended last)) (ne-eqb (length (take n line)) 0 (λ x. z (sym count ∙ x))))

@@ -1,6 +1,5 @@
 -- The answer to a line: what is printed, and the cluster after it. Document 01, "Script program".
 -- Assumes nothing.
-use mathlib.Core.Path.{_≡_}
 use mathlib.Core.List.{List, []}
 use mathlib.Core.Bool.{cond}
 use Prim.Native.Nat.{ℕ, _*_}
@@ -31,6 +30,10 @@ pub record After : Type 0 where
 -- the running answer, with the lent slices at its end
 abbrev pub afterOf : Next → List ℕ → List ℕ → After
 afterOf n m tables = record { text = textOf (n .printed); held = n .held; media = m; tables = tables }
+
+-- before the first cluster line: of a shape that none has, so that a call is bad; its records are those of a fresh cluster
+unfoldable pub nothing : Held
+nothing = record { shape = record { replicas = 0; places = 0 }; records = fresh (record { replicas = 0; places = 0 }) .records }
 
 -- "does nothing": all is as it was
 abbrev pub unchanged : List ℕ → Held → List ℕ → List ℕ → After
@@ -65,7 +68,3 @@ unfoldable pub answerTo : Meaning → Held → List ℕ → List ℕ → After
 answerTo bad p m tables = unchanged (textOf printed.Bad) p m tables
 answerTo (cluster r n) p m tables = clusterLine (record { replicas = r; places = n }) p m tables
 answerTo (asked c content locks) p m tables = callLine (inputOf c content locks) p m tables
-
--- what the program holds when a line was answered
-abbrev pub Leaves : After → Held → List ℕ → List ℕ → Type 0
-Leaves a p m tables = (a .held ≡ p) × (a .media ≡ m) × (a .tables ≡ tables)

@@ -7,6 +7,7 @@ use lib.Dec.{eqb, leb}
 use Rattle.storage.specs.Sizes.{mediumSize}
 use Rattle.cluster.specs.declared.Shape.{Shape}
 use Rattle.cluster.specs.State.{tableSize}
+use Rattle.lines.specs.Forms.{lineLimit}
 
 unfoldable pub accepted : Shape → Bool
 accepted h = leb 1 (h .places) && leb (h .places) 100 && (eqb (h .replicas) 1 || eqb (h .replicas) 3 || eqb (h .replicas) 5 || eqb (h .replicas) 7)
@@ -19,21 +20,22 @@ mediaLimit = 7 * mediumSize 100
 abbrev pub tablesLength : ℕ
 tablesLength = 4 * tableSize
 
--- replies that are printed at once
-abbrev pub outLimit : ℕ
-outLimit = 65536
+-- a piece of input that is read at once, and the replies to it: 24 bytes is the longest, and each line has at least its newline
+abbrev pub pieceLimit : ℕ
+pieceLimit = 4096
 
--- where the next reply goes, behind o bytes of others: behind them while the longest reply fits there, else they are printed and it is the first
-abbrev pub roomAt : ℕ → ℕ
-roomAt o = cond (leb o 65512) o 0
+abbrev pub outLimit : ℕ
+outLimit = 24 * pieceLimit
 
 -- one byte more than a line may have
 abbrev pub lineRoom : ℕ
 lineRoom = 501
 
--- the lengths of what main lends
-pub record Lent (m a l o : ℕ) : Type 0 where
+-- the lengths of what main lends: media, lock tables, a line, its data and its locks, the replies
+pub record Lent (m a l d k o : ℕ) : Type 0 where
   pub media : m ≡ mediaLimit
   pub tables : a ≡ tablesLength
   pub line : l ≡ lineRoom
+  pub content : d ≡ lineLimit
+  pub locks : k ≡ lineLimit
   pub out : o ≡ outLimit

@@ -1,13 +1,13 @@
 // The answer to a line, on the cluster that the lines before it left.
 ghost use mathlib.Core.Path.{_≡_};
-ghost use mathlib.Core.Bool.{true, false};
+ghost use mathlib.Core.Bool.{true};
 ghost use Prim.Native.Nat.{_*_, _≤_};
 ghost use lib.ListN.{length};
 ghost use Rattle.crc32.specs.Tables.{tablesOf};
 ghost use Rattle.storage.specs.Sizes.{mediumSize};
-ghost use Rattle.lines.specs.Forms.{meaningOf};
+ghost use Rattle.lines.specs.Forms.{lineLimit, meaningOf};
 ghost use Rattle.script.specs.Shapes.{accepted, mediaLimit, tablesLength};
-ghost use Rattle.script.specs.Answers.{afterOf, clusterLine, callLine, inputOf, answerTo};
+ghost use Rattle.script.specs.Answers.{nothing as Answers·nothing, afterOf, clusterLine, callLine, inputOf, answerTo};
 use cluster::Answer;
 use cluster::Call;
 use cluster::Records;
@@ -34,7 +34,7 @@ pub struct Next {
 }
 
 pub fn nothing() -> Held
-    ensures { λ h. ⌜ accepted (h .shape) ≡ false ⌝ }
+    ensures { λ h. ⌜ h ≡ Answers·nothing ⌝ }
 {
     Held {
         shape: Shape {
@@ -145,15 +145,24 @@ fn call_line(
     }
 }
 
-pub fn answer(t: &Tables, h: Held, line: &[u8], m: &mut [u8], tables: &mut [u64]) -> Next
+// The answer to a line; what it says beside its call is put into content and locks.
+pub fn answer(
+    t: &Tables,
+    h: Held,
+    line: &[u8],
+    m: &mut [u8],
+    tables: &mut [u64],
+    content: &mut [u8],
+    locks: &mut [u64],
+) -> Next
     requires { ⌜ now t ≡ tablesOf ⌝ }
     requires { ⌜ length (now m) ≡ mediaLimit ⌝ }
     requires { ⌜ length (now tables) ≡ tablesLength ⌝ }
+    requires { ⌜ length (now content) ≡ lineLimit ⌝ }
+    requires { ⌜ length (now locks) ≡ lineLimit ⌝ }
     ensures { λ n. ⌜ afterOf n (now (m .exit)) (now (tables .exit)) ≡ answerTo (meaningOf (now (line .entry))) h (now (m .entry)) (now (tables .entry)) ⌝ }
 {
-    let mut content = [0u8; forms::LIMIT];
-    let mut locks = [0u64; forms::LIMIT];
-    match forms::read(line, &mut content, &mut locks) {
+    match forms::read(line, content, locks) {
         Line::Bad => Next {
             printed: Printed::Bad,
             held: h,

@@ -3,7 +3,6 @@ ghost use mathlib.Core.Path.{_≡_};
 ghost use Prim.Native.Nat.{_+_, _-_, _≤_, min};
 ghost use lib.ListN.{length, take};
 ghost use Rattle.octets.specs.Octets.{writeAt};
-ghost use Rattle.io.specs.Counts.{Counts};
 
 fn least(a: usize, b: usize) -> usize
     ensures { λ r. ⌜ r ≡ min a b ⌝ }
@@ -22,12 +21,4 @@ pub fn keep(held: &mut [u8], n: usize, piece: &[u8]) -> usize
     let e = n + k;
     octets::copy(&mut held[n..e], &piece[0..k]);
     e
-}
-
-// What one read gives; 0 at the end of the input.
-pub fn some(fd: i32, chunk: &mut [u8]) -> usize
-    ensures { λ r. ⌜ Counts r (now (chunk .exit)) ⌝ }
-{
-    let got = libc::read(fd, chunk);
-    io::count(got, chunk)
 }

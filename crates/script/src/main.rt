@@ -1,24 +1,20 @@
-// The script program: reads lines of calls from standard input and prints a reply to each. What a line asks for, the calls, a fresh
-// cluster and the text of a reply are proved (lines, journal, fresh); this is the loop around them.
+// The script program: reads lines of calls from standard input and writes a reply to each. What the bytes of the input make of the
+// program and of its replies is proved (program); this reads and writes them.
 ghost use mathlib.Core.Path.{_≡_};
-ghost use Prim.Native.Nat.{_+_, _≤_};
-ghost use lib.ListN.{length, take};
-ghost use Rattle.octets.specs.Octets.{writeAt};
+ghost use Prim.Native.Nat.{_≤_};
+ghost use lib.ListN.{length};
 ghost use Rattle.crc32.specs.Tables.{tablesOf};
-ghost use Rattle.lines.specs.Forms.{meaningOf};
-ghost use Rattle.lines.specs.Texts.{textOf};
-ghost use Rattle.script.specs.Shapes.{lineRoom, outLimit, roomAt, Lent};
-ghost use Rattle.script.specs.Answers.{answerTo, Leaves};
-ghost use Rattle.script.specs.Input.{fed, programOf};
-use crate::answer::Held;
+ghost use Rattle.script.specs.Shapes.{lineRoom, Lent};
+use crate::program::State;
 use crc32::Tables;
+use libc::STDERR_FILENO;
 use libc::STDIN_FILENO;
 use libc::STDOUT_FILENO;
-use lines::replies;
-use lines::replies::LONGEST;
+use lines::forms::LIMIT;
 
 mod answer;
 mod input;
+mod program;
 
 // What is held of a line: one byte more than a line may have, enough to know that it is too long.
 const ROOM: usize = 501;
@@ -28,166 +24,155 @@ const MEDIA: usize = 45248;
 
 const TABLES: usize = 4096;
 
-// Replies that are printed at once, and what is left of their room with one reply in it.
-const OUT: usize = 65536;
+// Room for the replies to the 4,096 bytes that are read at once.
+const OUT: usize = 98304;
 
-const FULL: usize = 65512;
+// Whether the input goes on, has ended, or could not be read or its replies not be written.
+const GOES_ON: u8 = 0;
 
-// The program between two pieces of input: how many bytes of a line are held, how many of the replies are not printed yet, the
-// cluster.
-struct State {
-    n: usize,
-    o: usize,
-    held: Held,
+const ENDED: u8 = 1;
+
+const FAILED: u8 = 2;
+
+// What a piece of input leaves.
+struct Turn {
+    status: u8,
+    state: State,
 }
 
-fn print(out: &[u8], o: usize)
+// The language has no exit status: a failure is a line on standard error, and nothing is read or written after it.
+fn fail(what: &[u8]) {
+    io::write_all(STDERR_FILENO, what);
+}
+
+// Writes the replies held, in as many writes as that takes; false where one failed.
+fn write(out: &[u8], o: usize) -> bool
     requires { ⌜ o ≤ length (now out) ⌝ }
 {
-    io::write_all(STDOUT_FILENO, &out[0..o]);
-}
-
-// Room for one more reply behind o bytes of others.
-fn make_room(out: &[u8], o: usize) -> usize
-    requires { ⌜ o ≤ length (now out) ⌝ }
-    ensures { λ r. ⌜ r ≤ 65512 ⌝ }
-    ensures { λ r. ⌜ r ≡ roomAt o ⌝ }
-{
-    if o <= FULL {
-        return o;
+    if io::write_all(STDOUT_FILENO, &out[0..o]) {
+        return true;
     }
-    print(out, o);
-    0
+    fail(b"script: standard output cannot be written\n");
+    false
 }
 
-// Puts a reply behind the o bytes of others.
-fn put(out: &mut [u8], o: usize, printed: replies::Printed) -> usize
-    requires { ⌜ length (now out) ≡ outLimit ⌝ }
-    requires { ⌜ o ≤ 65512 ⌝ }
-    ensures { λ r. ⌜ r ≤ outLimit ⌝ }
-    ensures { λ r. ⌜ r ≡ o + length (textOf printed) ⌝ }
-    ensures { λ _. ⌜ now (out .exit) ≡ writeAt o (textOf printed) (now (out .entry)) ⌝ }
-{
-    let mut text = [0u8; LONGEST];
-    let k = replies::print(&mut text, printed);
-    octets::put(out, o, &text[0..k]);
-    o + k
-}
-
-// Answers the line held.
-fn reply(
+// Reads a piece of input and writes the replies to it.
+fn answer_piece(
     t: &Tables,
     s: State,
-    m: &mut [u8],
-    tables: &mut [u64],
-    line: &[u8],
-    out: &mut [u8],
-) -> State
-    requires { ⌜ now t ≡ tablesOf ⌝ }
-    requires { ⌜ Lent (length (now m)) (length (now tables)) (length (now line)) (length (now out)) ⌝ }
-    requires { ⌜ (s .n ≤ lineRoom) × (s .o ≤ outLimit) ⌝ }
-    ensures { λ r. ⌜ (r .n ≡ 0) × (r .o ≤ outLimit) ⌝ }
-    ensures { λ r. ⌜ Leaves (answerTo (meaningOf (take (s .n) (now (line .entry)))) (s .held) (now (m .entry)) (now (tables .entry))) (r .held) (now (m .exit)) (now (tables .exit)) ⌝ }
-    ensures { λ _. ⌜ now (out .exit) ≡ writeAt (roomAt (s .o)) (answerTo (meaningOf (take (s .n) (now (line .entry)))) (s .held) (now (m .entry)) (now (tables .entry)) .text) (now (out .entry)) ⌝ }
-{
-    let n = s.n;
-    let before = s.held;
-    let next = answer::answer(t, before, &line[0..n], m, tables);
-    let held = next.held;
-    let printed = next.printed;
-    let o = make_room(out, s.o);
-    State {
-        n: 0,
-        o: put(out, o, printed),
-        held: held,
-    }
-}
-
-// The bytes of one read, line by line.
-fn feed(
-    t: &Tables,
-    s: State,
-    chunk: &[u8],
     m: &mut [u8],
     tables: &mut [u64],
     line: &mut [u8],
+    content: &mut [u8],
+    locks: &mut [u64],
     out: &mut [u8],
-) -> State
+) -> Turn
     requires { ⌜ now t ≡ tablesOf ⌝ }
-    requires { ⌜ Lent (length (now m)) (length (now tables)) (length (now line)) (length (now out)) ⌝ }
-    requires { ⌜ (s .n ≤ lineRoom) × (s .o ≤ outLimit) ⌝ }
-    ensures { λ r. ⌜ (r .n ≤ lineRoom) × (r .o ≤ outLimit) ⌝ }
-    ensures { λ r. ⌜ programOf (r .n) (r .held) (now (line .exit)) (now (m .exit)) (now (tables .exit)) ≡ fed (programOf (s .n) (s .held) (now (line .entry)) (now (m .entry)) (now (tables .entry))) (now (chunk .entry)) ⌝ }
+    requires { ⌜ Lent (length (now m)) (length (now tables)) (length (now line)) (length (now content)) (length (now locks)) (length (now out)) ⌝ }
+    requires { ⌜ (s .n ≤ lineRoom) × (s .o ≡ 0) ⌝ }
+    ensures { λ r. ⌜ (r .state .n ≤ lineRoom) × (r .state .o ≡ 0) ⌝ }
 {
-    let mut state = s;
-    let mut i = 0;
-    while i < chunk.len() {
-        let j = bytes::scan::find(chunk, i, chunk.len(), b'\n');
-        state.n = input::keep(line, state.n, &chunk[i..j]);
-        if j == chunk.len() {
-            return state;
-        }
-        i = j + 1;
-        state = reply(t, state, m, tables, line, out);
+    let mut chunk = io::buffer();
+    let got = libc::read(STDIN_FILENO, &mut chunk);
+    if got < 0 {
+        fail(b"script: standard input cannot be read\n");
+        return Turn {
+            status: FAILED,
+            state: s,
+        };
     }
-    state
+    let n = io::count(got, &chunk);
+    if n == 0 {
+        return Turn {
+            status: ENDED,
+            state: s,
+        };
+    }
+    let fed = program::feed(t, s, &chunk[0..n], m, tables, line, content, locks, out);
+    let o = fed.o;
+    let next = program::emptied(fed);
+    if !write(out, o) {
+        return Turn {
+            status: FAILED,
+            state: next,
+        };
+    }
+    Turn {
+        status: GOES_ON,
+        state: next,
+    }
 }
 
-// Reads to the end of the input, and prints the replies to each piece as it comes. A proved loop has to end, and nothing says that
-// the input does: so it counts its turns down, from a number that no run uses up.
+// Reads to the end of the input. A proved loop has to end, and nothing says that the input does: so it counts its turns down, from a
+// number that no run uses up.
 fn read_all(
     t: &Tables,
     s: State,
     m: &mut [u8],
     tables: &mut [u64],
     line: &mut [u8],
+    content: &mut [u8],
+    locks: &mut [u64],
     out: &mut [u8],
-) -> State
+) -> Turn
     requires { ⌜ now t ≡ tablesOf ⌝ }
-    requires { ⌜ Lent (length (now m)) (length (now tables)) (length (now line)) (length (now out)) ⌝ }
-    requires { ⌜ (s .n ≤ lineRoom) × (s .o ≤ outLimit) ⌝ }
-    ensures { λ r. ⌜ (r .n ≤ lineRoom) × (r .o ≤ outLimit) ⌝ }
+    requires { ⌜ Lent (length (now m)) (length (now tables)) (length (now line)) (length (now content)) (length (now locks)) (length (now out)) ⌝ }
+    requires { ⌜ (s .n ≤ lineRoom) × (s .o ≡ 0) ⌝ }
+    ensures { λ r. ⌜ (r .state .n ≤ lineRoom) × (r .state .o ≡ 0) ⌝ }
 {
-    let mut chunk = io::large_buffer();
-    let mut state = s;
+    let mut last = Turn {
+        status: GOES_ON,
+        state: s,
+    };
     let mut turns = u64::MAX;
     while 0 < turns {
-        let got = input::some(STDIN_FILENO, &mut chunk);
-        if got == 0 {
+        if last.status != GOES_ON {
             break;
         }
-        state = feed(t, state, &chunk[0..got], m, tables, line, out);
-        print(out, state.o);
-        state.o = 0;
+        let state = last.state;
+        last = answer_piece(t, state, m, tables, line, content, locks, out);
         turns -= 1;
     }
-    state
+    last
 }
 
-// A last line without newline counts.
-fn end(t: &Tables, s: State, m: &mut [u8], tables: &mut [u64], line: &[u8], out: &mut [u8])
+// The reply to a last line without newline, where the input ended.
+fn end(
+    t: &Tables,
+    last: Turn,
+    m: &mut [u8],
+    tables: &mut [u64],
+    line: &[u8],
+    content: &mut [u8],
+    locks: &mut [u64],
+    out: &mut [u8],
+)
     requires { ⌜ now t ≡ tablesOf ⌝ }
-    requires { ⌜ Lent (length (now m)) (length (now tables)) (length (now line)) (length (now out)) ⌝ }
-    requires { ⌜ (s .n ≤ lineRoom) × (s .o ≤ outLimit) ⌝ }
+    requires { ⌜ Lent (length (now m)) (length (now tables)) (length (now line)) (length (now content)) (length (now locks)) (length (now out)) ⌝ }
+    requires { ⌜ (last .state .n ≤ lineRoom) × (last .state .o ≡ 0) ⌝ }
 {
-    if s.n == 0 {
+    if last.status != ENDED {
         return;
     }
-    let last = reply(t, s, m, tables, line, out);
-    print(out, last.o);
+    let state = last.state;
+    let s = program::finish(t, state, m, tables, line, content, locks, out);
+    write(out, s.o);
 }
 
-fn run(t: &Tables, m: &mut [u8], tables: &mut [u64], line: &mut [u8], out: &mut [u8])
+fn run(
+    t: &Tables,
+    m: &mut [u8],
+    tables: &mut [u64],
+    line: &mut [u8],
+    content: &mut [u8],
+    locks: &mut [u64],
+    out: &mut [u8],
+)
     requires { ⌜ now t ≡ tablesOf ⌝ }
-    requires { ⌜ Lent (length (now m)) (length (now tables)) (length (now line)) (length (now out)) ⌝ }
+    requires { ⌜ Lent (length (now m)) (length (now tables)) (length (now line)) (length (now content)) (length (now locks)) (length (now out)) ⌝ }
 {
-    let start = State {
-        n: 0,
-        o: 0,
-        held: answer::nothing(),
-    };
-    let last = read_all(t, start, m, tables, line, out);
-    end(t, last, m, tables, line, out);
+    let last = read_all(t, program::start(), m, tables, line, content, locks, out);
+    end(t, last, m, tables, line, content, locks, out);
 }
 
 fn main() {
@@ -195,6 +180,16 @@ fn main() {
     let mut m = [0u8; MEDIA];
     let mut tables = [0u64; TABLES];
     let mut line = [0u8; ROOM];
+    let mut content = [0u8; LIMIT];
+    let mut locks = [0u64; LIMIT];
     let mut out = [0u8; OUT];
-    run(&t, &mut m, &mut tables, &mut line, &mut out);
+    run(
+        &t,
+        &mut m,
+        &mut tables,
+        &mut line,
+        &mut content,
+        &mut locks,
+        &mut out,
+    );
 }

@@ -7,42 +7,42 @@ use text::number;
 use text::number::Number;
 
 // The fate, if the fields are those of one.
-pub enum Told {
+pub enum FateField {
     Is(Fate),
     Unfit,
 }
 
-fn cut(w: u64, left: u64) -> Told {
+fn cut(w: u64, left: u64) -> FateField {
     match left {
-        0 => Told::Is(Fate::Cut(w, Left::Old)),
-        1 => Told::Is(Fate::Cut(w, Left::New)),
-        2 => Told::Is(Fate::Cut(w, Left::Torn)),
-        _ => Told::Unfit,
+        0 => FateField::Is(Fate::Cut(w, Left::Old)),
+        1 => FateField::Is(Fate::Cut(w, Left::New)),
+        2 => FateField::Is(Fate::Cut(w, Left::Torn)),
+        _ => FateField::Unfit,
     }
 }
 
-fn fate(kind: u64, w: u64, left: u64) -> Told {
+fn fate(kind: u64, w: u64, left: u64) -> FateField {
     match kind {
-        0 => Told::Is(Fate::Answered),
-        1 => Told::Is(Fate::Lost),
-        2 => Told::Is(Fate::AnswerLost),
+        0 => FateField::Is(Fate::Answered),
+        1 => FateField::Is(Fate::Lost),
+        2 => FateField::Is(Fate::AnswerLost),
         3 => cut(w, left),
-        _ => Told::Unfit,
+        _ => FateField::Unfit,
     }
 }
 
 // The fate that field k and the two behind it say.
-pub fn read(line: &[u8], k: usize) -> Told
+pub fn read(line: &[u8], k: usize) -> FateField
     requires { ⌜ k ≤ 4 ⌝ }
 {
     let Number::Is(kind) = number::decimal(line::field(line, k)) else {
-        return Told::Unfit;
+        return FateField::Unfit;
     };
     let Number::Is(w) = number::decimal(line::field(line, k + 1)) else {
-        return Told::Unfit;
+        return FateField::Unfit;
     };
     let Number::Is(left) = number::decimal(line::field(line, k + 2)) else {
-        return Told::Unfit;
+        return FateField::Unfit;
     };
     fate(kind, w, left)
 }

@@ -2,7 +2,6 @@
 ghost use mathlib.Core.Path.{_≡_};
 ghost use Prim.Native.Nat.{_*_, _≤_};
 ghost use lib.ListN.{length};
-use crate::hex;
 use libc::STDOUT_FILENO;
 
 pub fn text(s: &[u8]) {
@@ -31,6 +30,6 @@ pub fn digits(b: &[u8])
 fn spelled(b: &[u8], out: &mut [u8])
     requires { ⌜ length (now out) ≡ 2 * length (now b) ⌝ }
 {
-    hex::spell(b, out);
+    text::hex::spell(b, out);
     text(out);
 }

@@ -1,9 +1,9 @@
--- The text of a line: fields with a tab between two, numbers in base ten. Document 01, "Script program": "tab between fields",
+-- The text of a line: fields with a tab between two, numbers in base ten, read and written. Document 01, "Script program": "tab between fields",
 -- "Numbers are in base ten".
 -- Assumes nothing.
-use mathlib.Core.List.{List, [], _∷_}
+use mathlib.Core.List.{List, [], _∷_, _++_}
 use mathlib.Core.Bool.{cond, _&&_}
-use Prim.Native.Nat.{ℕ, zero, suc, _+_, _-_, _*_, _^_}
+use Prim.Native.Nat.{ℕ, zero, suc, _+_, _-_, _*_, _/_, _%_, _^_}
 use lib.ListN.{take, drop}
 use lib.Dec.{eqb, ltb, leb}
 use Rattle.bytes.specs.Bytes.{indexOf}
@@ -57,3 +57,14 @@ numberOf (b ∷ s) = withDigits (Is 0) (b ∷ s)
 abbrev pub wordOf : Number → Word
 wordOf Unfit = word.Unfit
 wordOf (Is v) = cond (ltb v (2 ^ 32)) (word.Is v) word.Unfit
+
+-- ---- written
+
+-- a number's digits in base ten, of which there are k at most
+unfoldable pub spelled : ℕ → ℕ → List ℕ
+spelled zero n = []
+spelled (suc k) n = cond (ltb n 10) ((48 + n) ∷ []) (spelled k (n / 10) ++ ((48 + n % 10) ∷ []))
+
+-- 20 digits hold a number of 64 bits
+abbrev pub decimalOf : ℕ → List ℕ
+decimalOf n = spelled 20 n

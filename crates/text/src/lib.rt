@@ -1,3 +1,4 @@
-// The text of a line: its fields, and numbers in base ten.
+// The text of a line: its fields, numbers in base ten, bytes in hexadecimal digits, each read and written.
+pub mod hex;
 pub mod line;
 pub mod number;

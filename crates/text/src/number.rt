@@ -1,6 +1,9 @@
 // Numbers in base ten: digits only, at least one, and no more than the width holds.
 ghost use mathlib.Core.Path.{_≡_};
-ghost use Rattle.text.specs.Text.{withDigit, numberOf, wordOf};
+ghost use Prim.Native.Nat.{_+_, _≤_};
+ghost use lib.ListN.{length};
+ghost use Rattle.octets.specs.Octets.{writeAt};
+ghost use Rattle.text.specs.Text.{withDigit, numberOf, wordOf, decimalOf};
 
 // A number of 64 bits, if the digits are those of one.
 pub enum Number {
@@ -60,4 +63,17 @@ pub fn decimal32(s: &[u8]) -> Word
         return Word::Unfit;
     }
     Word::Is(v as u32)
+}
+
+// A number's digits at an offset, and how many there are.
+pub fn put_decimal(out: &mut [u8], at: usize, v: u64) -> usize
+    requires { ⌜ at + 20 ≤ length (now out) ⌝ }
+    ensures { λ r. ⌜ r ≤ 20 ⌝ }
+    ensures { λ r. ⌜ r ≡ length (decimalOf v) ⌝ }
+    ensures { λ _. ⌜ now (out .exit) ≡ writeAt at (decimalOf v) (now (out .entry)) ⌝ }
+{
+    let mut digits = [0u8; 20];
+    let n = io::decimal(v, &mut digits);
+    octets::put(out, at, &digits[0..n]);
+    n
 }

@@ -15,7 +15,7 @@ use storage::sizes;
 use storage::sizes::PLACE;
 use storage::slot::Current;
 use stored::fates;
-use stored::fates::Told;
+use stored::fates::FateField;
 use stored::hex;
 use stored::print;
 use text::line;
@@ -88,7 +88,7 @@ fn change(t: &Tables, line: &[u8], c: Command, places: usize, m: &mut [u8]) -> b
     requires { ⌜ length (now m) ≡ mediumSize places ⌝ }
 {
     let k = operation::fate_field(c);
-    let Told::Is(f) = fates::read(line, k) else {
+    let FateField::Is(f) = fates::read(line, k) else {
         return false;
     };
     let mut given = [0u8; PLACE];

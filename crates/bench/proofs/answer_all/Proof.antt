@@ -3,13 +3,12 @@
 use mathlib.Core.Path.{_≡_}
 use Prim.Native.Nat.{_-_}
 use lib.ListN.{length}
-use Rattle.bench.specs.Sizes.{mediaLength, tablesLength}
 use borrow.Author.Needs.{needs}
 use Rattle.bench.proofs.answer_all.Statement.{statement}
 use Rattle.bench.proofs.answer_all.Tie as tie
 
 abbrev Inv-loop : tie.InvT-loop
-Inv-loop t input m₀ tables₀ i₀ t7 t8 m tables i = (length m ≡ mediaLength) × (length tables ≡ tablesLength)
+Inv-loop t input m₀ tables₀ i₀ t7 t8 m tables i = (length m ≡ length m₀) × (length tables ≡ length tables₀)
 
 abbrev μ-loop : tie.MeasureT-loop
 μ-loop t input m₀ tables₀ i₀ t7 t8 m tables i = length input - i

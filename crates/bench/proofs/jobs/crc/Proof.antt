@@ -2,16 +2,18 @@
 -- Assumes nothing.
 use mathlib.Core.Path.{_≡_}
 use lib.ListN.{length}
-use Rattle.bench.specs.Sizes.{mediaLength}
 use borrow.Author.Needs.{needs}
 use Rattle.bench.proofs.jobs.crc.Statement.{statement}
 use Rattle.bench.proofs.jobs.crc.Tie as tie
 
 abbrev Inv-loop : tie.InvT-loop
-Inv-loop t m₀ count sum₀ left₀ m sum left = length m ≡ mediaLength
+Inv-loop t m₀ tables count sum₀ left₀ m sum left = length m ≡ length m₀
 
 abbrev μ-loop : tie.MeasureT-loop
-μ-loop t m₀ count sum₀ left₀ m sum left = left
+μ-loop t m₀ tables count sum₀ left₀ m sum left = left
+
+begun-requires : tie.Need-begun-requires Inv-loop μ-loop
+begun-requires c κs = search needs
 
 loop-holds : tie.Need-loop-holds Inv-loop μ-loop
 loop-holds c = search needs
@@ -34,6 +36,9 @@ loop-again c = search needs
 same-length : tie.Need-same-length Inv-loop μ-loop
 same-length c = search needs
 
+same-length-2 : tie.Need-same-length-2 Inv-loop μ-loop
+same-length-2 c = search needs
+
 returns : tie.Need-returns Inv-loop μ-loop
 returns c = search needs
 
@@ -43,6 +48,7 @@ crc-spec =
     (tie.spec
     Inv-loop
     μ-loop
+    begun-requires
     loop-holds
     crc-requires
     wrapping-add-u64-requires
@@ -50,4 +56,5 @@ crc-spec =
     loop-less
     loop-again
     same-length
+    same-length-2
     returns)

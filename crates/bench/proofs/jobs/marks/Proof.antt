@@ -2,13 +2,12 @@
 -- Assumes nothing.
 use mathlib.Core.Path.{_≡_}
 use lib.ListN.{length}
-use Rattle.bench.specs.Sizes.{mediaLength}
 use borrow.Author.Needs.{needs}
 use Rattle.bench.proofs.jobs.marks.Statement.{statement}
 use Rattle.bench.proofs.jobs.marks.Tie as tie
 
 abbrev Inv-loop : tie.InvT-loop
-Inv-loop t m₀ tables count sum₀ left₀ m sum left = length m ≡ mediaLength
+Inv-loop t m₀ tables count sum₀ left₀ m sum left = length m ≡ length m₀
 
 abbrev μ-loop : tie.MeasureT-loop
 μ-loop t m₀ tables count sum₀ left₀ m sum left = left

@@ -7,10 +7,10 @@ use Rattle.bench.proofs.jobs.open.Statement.{statement}
 use Rattle.bench.proofs.jobs.open.Tie as tie
 
 abbrev Inv-loop : tie.InvT-loop
-Inv-loop m₀ tables₀ count ready sum₀ left₀ m tables sum left = (length m ≡ length m₀) × (length tables ≡ length tables₀)
+Inv-loop t m₀ tables₀ count ready sum₀ left₀ m tables sum left = (length m ≡ length m₀) × (length tables ≡ length tables₀)
 
 abbrev μ-loop : tie.MeasureT-loop
-μ-loop m₀ tables₀ count ready sum₀ left₀ m tables sum left = left
+μ-loop t m₀ tables₀ count ready sum₀ left₀ m tables sum left = left
 
 filled-requires : tie.Need-filled-requires Inv-loop μ-loop
 filled-requires c κs = search needs
@@ -21,11 +21,8 @@ prepared-requires c κs = search needs
 loop-holds : tie.Need-loop-holds Inv-loop μ-loop
 loop-holds c = search needs
 
-make-requires : tie.Need-make-requires Inv-loop μ-loop
-make-requires c κs = search needs
-
-value-requires : tie.Need-value-requires Inv-loop μ-loop
-value-requires c κs = search needs
+open-requires : tie.Need-open-requires Inv-loop μ-loop
+open-requires c κs = search needs
 
 wrapping-add-u64-requires : tie.Need-wrapping-add-u64-requires Inv-loop μ-loop
 wrapping-add-u64-requires c κs = search needs
@@ -57,8 +54,7 @@ open-spec =
     filled-requires
     prepared-requires
     loop-holds
-    make-requires
-    value-requires
+    open-requires
     wrapping-add-u64-requires
     sub-left
     loop-less

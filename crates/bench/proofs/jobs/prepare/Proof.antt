@@ -2,16 +2,18 @@
 -- Assumes nothing.
 use mathlib.Core.Path.{_≡_}
 use lib.ListN.{length}
-use Rattle.bench.specs.Sizes.{mediaLength}
 use borrow.Author.Needs.{needs}
 use Rattle.bench.proofs.jobs.prepare.Statement.{statement}
 use Rattle.bench.proofs.jobs.prepare.Tie as tie
 
 abbrev Inv-loop : tie.InvT-loop
-Inv-loop m₀ tables₀ count full ready sum₀ left₀ m tables sum left = (length m ≡ mediaLength) × (length tables ≡ length tables₀)
+Inv-loop t m₀ tables₀ count full ready sum₀ left₀ m tables sum left = (length m ≡ length m₀) × (length tables ≡ length tables₀)
 
 abbrev μ-loop : tie.MeasureT-loop
-μ-loop m₀ tables₀ count full ready sum₀ left₀ m tables sum left = left
+μ-loop t m₀ tables₀ count full ready sum₀ left₀ m tables sum left = left
+
+large-buffer-requires : tie.Need-large-buffer-requires Inv-loop μ-loop
+large-buffer-requires c κs = search needs
 
 filled-requires : tie.Need-filled-requires Inv-loop μ-loop
 filled-requires c κs = search needs
@@ -61,6 +63,7 @@ prepare-spec =
     (tie.spec
     Inv-loop
     μ-loop
+    large-buffer-requires
     filled-requires
     slice-aggregate-put-by
     put-by-requires

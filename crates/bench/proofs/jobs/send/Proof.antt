@@ -2,16 +2,15 @@
 -- Assumes nothing.
 use mathlib.Core.Path.{_≡_}
 use lib.ListN.{length}
-use Rattle.bench.specs.Sizes.{mediaLength}
 use borrow.Author.Needs.{needs}
 use Rattle.bench.proofs.jobs.send.Statement.{statement}
 use Rattle.bench.proofs.jobs.send.Tie as tie
 
 abbrev Inv-loop : tie.InvT-loop
-Inv-loop m₀ tables₀ count ready sum₀ left₀ m tables sum left = (length m ≡ mediaLength) × (length tables ≡ length tables₀)
+Inv-loop t m₀ tables₀ count ready sum₀ left₀ m tables sum left = (length m ≡ length m₀) × (length tables ≡ length tables₀)
 
 abbrev μ-loop : tie.MeasureT-loop
-μ-loop m₀ tables₀ count ready sum₀ left₀ m tables sum left = left
+μ-loop t m₀ tables₀ count ready sum₀ left₀ m tables sum left = left
 
 filled-requires : tie.Need-filled-requires Inv-loop μ-loop
 filled-requires c κs = search needs

@@ -7,16 +7,19 @@ use Rattle.bench.proofs.stage.filled.Statement.{statement}
 use Rattle.bench.proofs.stage.filled.Tie as tie
 
 abbrev Inv-loop : tie.InvT-loop
-Inv-loop m₀ tables₀ n next₀ left₀ m tables next left = (length m ≡ length m₀) × (length tables ≡ length tables₀)
+Inv-loop t m₀ tables₀ n next₀ left₀ m tables next left = (length m ≡ length m₀) × (length tables ≡ length tables₀)
 
 abbrev μ-loop : tie.MeasureT-loop
-μ-loop m₀ tables₀ n next₀ left₀ m tables next left = left
+μ-loop t m₀ tables₀ n next₀ left₀ m tables next left = left
+
+begun-requires : tie.Need-begun-requires Inv-loop μ-loop
+begun-requires c κs = search needs
 
 prepared-requires : tie.Need-prepared-requires Inv-loop μ-loop
 prepared-requires c κs = search needs
 
-make-requires : tie.Need-make-requires Inv-loop μ-loop
-make-requires c κs = search needs
+after-requires : tie.Need-after-requires Inv-loop μ-loop
+after-requires c κs = search needs
 
 loop-holds : tie.Need-loop-holds Inv-loop μ-loop
 loop-holds c = search needs
@@ -48,8 +51,9 @@ filled-spec =
     (tie.spec
     Inv-loop
     μ-loop
+    begun-requires
     prepared-requires
-    make-requires
+    after-requires
     loop-holds
     stored-requires
     sub-left

@@ -13,14 +13,14 @@ Inv-loop m₀ tables₀ server next₀ i₀ m tables next i = (length m ≡ leng
 abbrev μ-loop : tie.MeasureT-loop
 μ-loop m₀ tables₀ server next₀ i₀ m tables next i = 7 - i
 
-make-requires : tie.Need-make-requires Inv-loop μ-loop
-make-requires c κs = search needs
+after-requires : tie.Need-after-requires Inv-loop μ-loop
+after-requires c κs = search needs
 
 loop-holds : tie.Need-loop-holds Inv-loop μ-loop
 loop-holds c = search needs
 
-make-requires-2 : tie.Need-make-requires-2 Inv-loop μ-loop
-make-requires-2 c κs = search needs
+after-requires-2 : tie.Need-after-requires-2 Inv-loop μ-loop
+after-requires-2 c κs = search needs
 
 add-i : tie.Need-add-i Inv-loop μ-loop
 add-i c = search needs
@@ -46,9 +46,9 @@ prepared-spec =
     (tie.spec
     Inv-loop
     μ-loop
-    make-requires
+    after-requires
     loop-holds
-    make-requires-2
+    after-requires-2
     add-i
     loop-less
     loop-again

@@ -19,8 +19,8 @@ issued-requires c κs = search needs
 loop-holds : tie.Need-loop-holds Inv-loop μ-loop
 loop-holds c = search needs
 
-make-requires : tie.Need-make-requires Inv-loop μ-loop
-make-requires c κs = search needs
+after-requires : tie.Need-after-requires Inv-loop μ-loop
+after-requires c κs = search needs
 
 add-i : tie.Need-add-i Inv-loop μ-loop
 add-i c = search needs
@@ -48,7 +48,7 @@ stored-spec =
     μ-loop
     issued-requires
     loop-holds
-    make-requires
+    after-requires
     add-i
     loop-less
     loop-again

@@ -41,8 +41,8 @@ returns-2 c =
     let e = no-locks (a .line .now) (a .server) (a .q) _ (c .before .before .before .before .before .field .ensures) _ (a .n) (c .before .before .after .ensures) (c .before .before .before .before .before .before .before .before .before .pre .0) hex (sym (k .ensures) ∙ not-true (k .result) (c .if2 .taken)) in
     gives-bad _ _ _ e
 
-read-hex-requires : tie.Need-read-hex-requires
-read-hex-requires c κs =
+read-requires : tie.Need-read-requires
+read-requires c κs =
     let h = c .before .before .before .before .before .is-hex in
     let f = c .before .before .before .before .before .before .field .ensures in
     (sym (h .ensures) ∙ not-false (h .result) (c .before .before .before .before .if1 .left), omega (arith, ap length f, field-short 5 (c .before .before .before .before .before .before .before .before .before .before .args .line .now)))
@@ -63,7 +63,7 @@ returns-3 c =
     let k = c .before .before .before .before .before .before .before .before .before .all-numbers in
     let hex = sym (h .ensures) ∙ not-false (h .result) (c .before .before .before .before .before .before .before .before .before .before .before .if1 .left) in
     let all = sym (k .ensures) ∙ not-false (k .result) (c .before .before .before .before .before .before .before .before .if2 .left) in
-    gives-data (a .line .now) (a .server) (a .q) _ (c .before .before .before .before .before .before .before .before .before .before .before .before .before .field .ensures) _ (a .n) (c .before .before .before .before .before .before .before .before .before .before .after .ensures) (c .before .before .before .before .before .before .before .before .before .before .before .before .before .before .before .before .before .pre .0) hex _ _ _ _ all (c .before .before .before .before .before .before .read-hex .ensures) (c .before .before .read-numbers .ensures)
+    gives-data (a .line .now) (a .server) (a .q) _ (c .before .before .before .before .before .before .before .before .before .before .before .before .before .field .ensures) _ (a .n) (c .before .before .before .before .before .before .before .before .before .before .after .ensures) (c .before .before .before .before .before .before .before .before .before .before .before .before .before .before .before .before .before .pre .0) hex _ _ _ _ all (c .before .before .before .before .before .before .read .ensures) (c .before .before .read-numbers .ensures)
 
 pub beside-spec : {M : Type 1} → statement M
 beside-spec =
@@ -76,7 +76,7 @@ beside-spec =
     after-requires
     all-numbers-requires
     returns-2
-    read-hex-requires
+    read-requires
     read-numbers-requires
     same-length
     same-length-2

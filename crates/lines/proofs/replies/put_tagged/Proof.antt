@@ -5,7 +5,7 @@ use mathlib.Core.List.{[], _∷_}
 use Prim.Native.Nat.{_+_}
 use lib.ListN.{length, length-append}
 use Rattle.octets.specs.Octets.{writeAt}
-use Rattle.lines.specs.Texts.{decimalOf}
+use Rattle.text.specs.Text.{decimalOf}
 use Rattle.octets.proofs.Laws.{write-three}
 use native.Mathlib.Omega.{arith}
 use borrow.Author.Needs.{needs}

@@ -6,14 +6,8 @@ use Rattle.lines.proofs.Counts.{counted}
 use Rattle.script.proofs.Answers.{bad-line, cluster-line, call-line}
 use native.Mathlib.Omega.{arith}
 use borrow.Author.Needs.{needs}
-use Rattle.script.proofs.answer.answer.Statement.{statement}
 use Rattle.script.proofs.answer.answer.Tie as tie
-
-slice-aggregate-read : tie.Need-slice-aggregate-read
-slice-aggregate-read c = search needs
-
-slice-aggregate-read-2 : tie.Need-slice-aggregate-read-2
-slice-aggregate-read-2 c = search needs
+use Rattle.script.proofs.answer.answer.Statement.{statement}
 
 read-requires : tie.Need-read-requires
 read-requires c κs = search needs
@@ -38,8 +32,8 @@ part-call-line-start c = search needs
 
 part-call-line-end : tie.Need-part-call-line-end
 part-call-line-end c =
-    let r = c .before .before .before .before .before .before .read in
-    let b = counted (meaningOf (c .before .before .before .before .before .before .before .before .before .before .before .before .args .line .now)) (r .result) _ _ _ _ _ _ _ (c .before .before .call .given .1) (r .ensures) in
+    let r = c .before .before .before .before .before .before .before .before .read in
+    let b = counted (meaningOf (c .before .before .before .before .before .before .before .before .before .before .before .before .before .before .before .before .args .line .now)) (r .result) _ _ _ _ _ _ _ (c .before .before .call .given .1) (r .ensures) in
     omega (arith, b .0)
 
 sub-call-line-2 : tie.Need-sub-call-line-2
@@ -50,17 +44,12 @@ part-call-line-start-2 c = search needs
 
 part-call-line-end-2 : tie.Need-part-call-line-end-2
 part-call-line-end-2 c =
-    let r = c .before .before .before .before .before .before .before .before .read in
-    let b = counted (meaningOf (c .before .before .before .before .before .before .before .before .before .before .before .before .before .before .args .line .now)) (r .result) _ _ _ _ _ _ _ (c .before .before .before .before .call .given .1) (r .ensures) in
+    let r = c .before .before .before .before .before .before .before .before .before .before .read in
+    let b = counted (meaningOf (c .before .before .before .before .before .before .before .before .before .before .before .before .before .before .before .before .before .before .args .line .now)) (r .result) _ _ _ _ _ _ _ (c .before .before .before .before .call .given .1) (r .ensures) in
     omega (arith, b .1)
 
 call-line-requires : tie.Need-call-line-requires
 call-line-requires c κs = search needs
-
-returns : tie.Need-returns
-returns c =
-    let a = c .before .before .before .before .before .before .before .before .before .before .args in
-    bad-line (meaningOf (a .line .now)) (a .h) (a .m .now) (a .tables .now) (sym (c .enum-told .given .1) ∙ c .before .before .before .before .read .ensures .0)
 
 same-length : tie.Need-same-length
 same-length c = search needs
@@ -68,11 +57,10 @@ same-length c = search needs
 same-length-2 : tie.Need-same-length-2
 same-length-2 c = search needs
 
-returns-2 : tie.Need-returns-2
-returns-2 c =
-    let a = c .before .before .before .before .before .before .before .before .before .before .before .before .before .before .before .before .before .before .args in
-    c .before .before .before .before .cluster-line .ensures
-    ∙ cluster-line (meaningOf (a .line .now)) (a .h) (a .m .now) (a .tables .now) _ _ (sym (c .before .before .before .before .before .before .before .before .r .given .1) ∙ c .before .before .before .before .before .before .before .before .before .before .before .before .read .ensures .0)
+returns : tie.Need-returns
+returns c =
+    let a = c .before .before .before .before .before .before .before .before .before .before .before .before .before .before .args in
+    bad-line (meaningOf (a .line .now)) (a .h) (a .m .now) (a .tables .now) (sym (c .enum-told .given .1) ∙ c .before .before .before .before .before .before .read .ensures .0)
 
 same-length-3 : tie.Need-same-length-3
 same-length-3 c = search needs
@@ -80,10 +68,34 @@ same-length-3 c = search needs
 same-length-4 : tie.Need-same-length-4
 same-length-4 c = search needs
 
+same-length-5 : tie.Need-same-length-5
+same-length-5 c = search needs
+
+same-length-6 : tie.Need-same-length-6
+same-length-6 c = search needs
+
+returns-2 : tie.Need-returns-2
+returns-2 c =
+    let a = c .before .before .before .before .before .before .before .before .before .before .before .before .before .before .before .before .before .before .before .before .before .before .args in
+    c .before .before .before .before .cluster-line .ensures
+    ∙ cluster-line (meaningOf (a .line .now)) (a .h) (a .m .now) (a .tables .now) _ _ (sym (c .before .before .before .before .before .before .before .before .r .given .1) ∙ c .before .before .before .before .before .before .before .before .before .before .before .before .before .before .read .ensures .0)
+
+same-length-7 : tie.Need-same-length-7
+same-length-7 c = search needs
+
+same-length-8 : tie.Need-same-length-8
+same-length-8 c = search needs
+
+same-length-9 : tie.Need-same-length-9
+same-length-9 c = search needs
+
+same-length-10 : tie.Need-same-length-10
+same-length-10 c = search needs
+
 returns-3 : tie.Need-returns-3
 returns-3 c =
-    let a = c .before .before .before .before .before .before .before .before .before .before .before .before .before .before .before .before .before .before .before .before .before .before .args in
-    let r = c .before .before .before .before .before .before .before .before .before .before .before .before .before .before .before .before .read .ensures in
+    let a = c .before .before .before .before .before .before .before .before .before .before .before .before .before .before .before .before .before .before .before .before .before .before .before .before .before .before .args in
+    let r = c .before .before .before .before .before .before .before .before .before .before .before .before .before .before .before .before .before .before .read .ensures in
     c .before .before .before .before .call-line .ensures
     ∙ call-line (meaningOf (a .line .now)) (a .h) (a .m .now) (a .tables .now) _ _ _ _ _ _ _ (sym (c .before .before .before .before .before .before .before .before .before .before .before .before .call .given .1) ∙ r .0) (r .1 .0) (r .1 .1)
 
@@ -91,8 +103,6 @@ pub answer-spec : {M : Type 1} → statement M
 answer-spec =
     tie.close
     (tie.spec
-    slice-aggregate-read
-    slice-aggregate-read-2
     read-requires
     enum-told
     enum-known-r
@@ -105,10 +115,16 @@ answer-spec =
     part-call-line-start-2
     part-call-line-end-2
     call-line-requires
-    returns
     same-length
     same-length-2
-    returns-2
+    returns
     same-length-3
     same-length-4
+    same-length-5
+    same-length-6
+    returns-2
+    same-length-7
+    same-length-8
+    same-length-9
+    same-length-10
     returns-3)

@@ -34,9 +34,6 @@ module _ (h : Shape) (x : State) (s a b : ℕ) (f : Fate) (given : List ℕ) whe
   unfolding step
   copy-whole = refl
 
-  copy-sending : checksOf h x p (call.Copy s a b f) .sending ≡ copyRows h (serverAt (x .records) s) (x .media) a b f given
-  copy-sending = refl
-
   copy-sent : operated h x s b (op.Append (markAt (serverAt (x .records) s) b)) (placeAt (markAt (serverAt (x .records) s) b + 1) (mediumAt (h .places) a (x .media))) f given ≡ onceSent h x p
   unfolding operationEffect appendEffect
   copy-sent = refl
@@ -50,8 +47,7 @@ module _ (h : Shape) (r : Records) (media tables : List ℕ) (s a b : ℕ) (f : 
         → c ≡ unchanged v why
         → resultOf (changed r s c) media tables ≡ onceAdmitted h (stateOf r media tables) (inputOf (call.Copy s a b f) given)
     copy-refuses {why} {c} e d =
-        rw (copy-sending h (stateOf r media tables) s a b f given)
-        (refused r media tables _ (copyRows h (serverAt r s) media a b f given) _ {k = k} (rw q l) {o = changed r s c} e (rw (d, ← q) (declined-server r s why)))
+        refused r media tables _ (copyRows h (serverAt r s) media a b f given) _ {k = k} (rw q l) {o = changed r s c} e (rw (d, ← q) (declined-server r s why))
 
     pub copy-does :
         {bs : List ℕ} {z : Result}
@@ -62,8 +58,7 @@ module _ (h : Shape) (r : Records) (media tables : List ℕ) (s a b : ℕ) (f : 
     copy-does {bs} {z} e t d =
         let mark : markAt v b ≡ markAt (serverAt r s) b = ap (λ (w : Server). markAt w b) (sym q) in
         let place : bs ≡ placeAt (markAt (serverAt r s) b + 1) (mediumAt (h .places) a media) = t ∙ ap (λ (n : ℕ). placeAt (n + 1) (mediumAt (h .places) a media)) mark in
-        rw (copy-sending h (stateOf r media tables) s a b f given)
-        (goes-on r media tables _ (copyRows h (serverAt r s) media a b f given) _ {k = k} (rw q l) e
+        goes-on r media tables _ (copyRows h (serverAt r s) media a b f given) _ {k = k} (rw q l) e
         (d ∙ ap (λ (n : ℕ). operated h (stateOf r media tables) s b (op.Append n) bs f given) mark
         ∙ ap (λ (c : List ℕ). operated h (stateOf r media tables) s b (op.Append (markAt (serverAt r s) b)) c f given) place
-        ∙ copy-sent h (stateOf r media tables) s a b f given))
+        ∙ copy-sent h (stateOf r media tables) s a b f given)

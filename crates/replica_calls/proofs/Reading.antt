@@ -6,8 +6,8 @@ use Prim.Native.Nat.{ℕ}
 use Rattle.fate.specs.declared.Fate.{Fate}
 use Rattle.cluster.specs.declared.Shape.{Shape}
 use Rattle.cluster.specs.declared.Call.the-variants as call
-use Rattle.cluster.specs.State.{State, serverAt}
-use Rattle.cluster.specs.Refusals.{Input, noReplicaAt, onlyOpen, replicaRows, readRows, checksOf}
+use Rattle.cluster.specs.State.{State}
+use Rattle.cluster.specs.Refusals.{Input, noReplicaAt, onlyOpen, replicaRows, checksOf}
 use Rattle.cluster.specs.Step.{effect, rest, step}
 use Rattle.checks.specs.Results.{inputOf}
 
@@ -19,6 +19,3 @@ module _ (h : Shape) (x : State) (s i n : ℕ) (f : Fate) (given : List ℕ) whe
       ++ (checksOf h x p (call.Read s i n f) .sending ++ checksOf h x p (call.Read s i n f) .receiving)) x (effect h x p (call.Read s i n f))
   unfolding step
   read-whole = refl
-
-  pub read-sending : checksOf h x p (call.Read s i n f) .sending ≡ readRows h (serverAt (x .records) s) i n f given
-  read-sending = refl

@@ -1,10 +1,8 @@
 use native.Mathlib.Omega.{arith}
 use Rattle.cluster.specs.State.{serverAt}
 use Rattle.cluster.specs.Refusals.{readRows}
-use Rattle.checks.specs.Results.{stateOf}
 use Rattle.checks.proofs.Frame.{refused, goes-on, holds-not}
 use Rattle.replica_calls.proofs.Known.{readable}
-use Rattle.replica_calls.proofs.Reading.{read-sending}
 use borrow.Author.Needs.{needs}
 use Rattle.replica_calls.proofs.read.read_admitted.Statement.{statement}
 use Rattle.replica_calls.proofs.read.read_admitted.Tie as tie
@@ -39,15 +37,13 @@ returns : tie.Need-returns
 returns c =
     let a = c .before .before .before .before .before .before .before .args in
     λ tables.
-    rw (read-sending (a .shape) (stateOf (a .t2) (a .media .now) tables) (a .s) (a .i) (a .id) (a .fate) (a .given .now))
-    (refused (a .t2) (a .media .now) tables _ (readRows (a .shape) (serverAt (a .t2) (a .s)) (a .i) (a .id) (a .fate) (a .given .now)) _ (c .before .before .before .before .check-read .ensures) (c .before .before .k .given .1) (c .declined .ensures))
+    refused (a .t2) (a .media .now) tables _ (readRows (a .shape) (serverAt (a .t2) (a .s)) (a .i) (a .id) (a .fate) (a .given .now)) _ (c .before .before .before .before .check-read .ensures) (c .before .before .k .given .1) (c .declined .ensures)
 
 returns-2 : tie.Need-returns-2
 returns-2 c =
     let a = c .before .before .before .before .before .before .args in
     λ tables.
-    rw (read-sending (a .shape) (stateOf (a .t2) (a .media .now) tables) (a .s) (a .i) (a .id) (a .fate) (a .given .now))
-    (goes-on (a .t2) (a .media .now) tables _ (readRows (a .shape) (serverAt (a .t2) (a .s)) (a .i) (a .id) (a .fate) (a .given .now)) _ (c .before .before .before .check-read .ensures) (c .before .enum-told .given .1) (c .read-sent .ensures (a .given .now) tables))
+    goes-on (a .t2) (a .media .now) tables _ (readRows (a .shape) (serverAt (a .t2) (a .s)) (a .i) (a .id) (a .fate) (a .given .now)) _ (c .before .before .before .check-read .ensures) (c .before .enum-told .given .1) (c .read-sent .ensures (a .given .now) tables)
 
 pub read-admitted-spec : {M : Type 1} → statement M
 read-admitted-spec =

@@ -11,7 +11,7 @@ use cluster::put_server;
 use crc32::Tables;
 use fate::Fate;
 use std::num::wrapping_add_u64;
-use storage::operation::Closing;
+use cluster::Closing;
 
 // The CRC of 64 KB of a fresh cluster's media.
 pub fn crc(t: &Tables, m: &mut [u8], tables: &mut [u64], count: u64) -> u64

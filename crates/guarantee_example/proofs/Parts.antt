@@ -8,7 +8,7 @@ use Rattle.octets.specs.Octets.{writeAt, beFrom, beOf, beBytes, fieldsOf, allZe
 use Rattle.crc32.specs.Crc32.{bitStep, bitSteps, crcFrom, crcOf, checked, sealed}
 use Rattle.fate.specs.Fates.{allOf, after, cutAt, leave}
 use Rattle.storage.specs.Given.{passes, passesAsPlace}
-use Rattle.storage.specs.Places.{padded, recordHead, recordBytes, idOf, sizeOf, validPlace, wiped}
+use Rattle.storage.specs.Places.{recordBytes, idOf, sizeOf, validPlace, wiped}
 use Rattle.storage.specs.Slots.{slotBytes, slotOf, validSlot, newer, currentOf, storedSlot}
 use Rattle.storage.specs.Log.{placeAt, placesFrom, run, logOf, markOf}
 use Rattle.storage.specs.Operations.{wipes, promising, closing, prepareWrites}
@@ -34,7 +34,7 @@ unfolding
     takeEffect prepareEffect openEffect openedRegister openedServer issueEffect appendEffect
     noSlot promiseAbove promiseDiffers markDiffers backed majorityMark decided firstHeld markedAll markedAt placeOf estimateOf
     prepareWrites promising closing wipes wiped after allOf cutAt leave writeAt passes passesAsPlace
-    markOf logOf run placesFrom placeAt validPlace idOf sizeOf recordBytes recordHead padded
+    markOf logOf run placesFrom placeAt validPlace idOf sizeOf recordBytes
     currentOf validSlot newer slotOf storedSlot slotBytes
     sealed checked crcOf crcFrom bitSteps bitStep allZero fieldsOf beBytes beOf beFrom state-1 state-2 state-3 state-4
 unfolded = 0

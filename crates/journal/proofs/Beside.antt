@@ -7,16 +7,14 @@ use Rattle.cluster.specs.declared.Shape.{Shape}
 use Rattle.cluster.specs.declared.Call.{Call}
 use Rattle.cluster.specs.declared.Call.the-variants as call
 use Rattle.cluster.specs.State.{State}
-use Rattle.cluster.specs.Refusals.{Input, Verdict, firstOf}
+use Rattle.cluster.specs.Refusals.{Input, Row, rowsOf}
 use Rattle.cluster.specs.Effects.{Result}
-use Rattle.cluster.specs.Step.{effect, unless, step}
-use Rattle.cluster.proofs.Rows.{ownRows, own-rows}
+use Rattle.cluster.specs.Step.{effect, rest, step}
 use Rattle.checks.specs.Results.{inputOf}
 
-agree : (h : Shape) (x : State) (p q : Input) → firstOf (ownRows h x p (p .call)) ≡ firstOf (ownRows h x q (q .call)) → effect h x p (p .call) ≡ effect h x q (q .call)
-    → step h x p ≡ step h x q
+agree : (h : Shape) (x : State) (p q : Input) → rowsOf h x p ≡ rowsOf h x q → effect h x p (p .call) ≡ effect h x q (q .call) → step h x p ≡ step h x q
 unfolding step
-agree h x p q e f = ap₂ (λ (v : Verdict) (r : Result). unless v x r) (own-rows h x p ∙ e ∙ sym (own-rows h x q)) f
+agree h x p q e f = ap₂ (λ (ws : List Row) (r : Result). rest ws x r) e f
 
 module _ (content locks given : List ℕ) where
   -- a call as `apply` gets it

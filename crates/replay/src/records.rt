@@ -10,7 +10,7 @@ use cluster::Records;
 use cluster::Register;
 use cluster::Server;
 use cluster::Shape;
-use storage::operation::Closing;
+use cluster::Closing;
 use stored::hex;
 use text::line;
 use text::number;

@@ -7,7 +7,7 @@ use cluster::Phase;
 use cluster::Records;
 use cluster::Server;
 use crc32::Tables;
-use storage::operation::Closing;
+use cluster::Closing;
 
 // Numbers of the register, and of a server's record; the 64 bytes of the issued record count as eight.
 const REGISTER: usize = 23;

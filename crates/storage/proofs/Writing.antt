@@ -17,12 +17,13 @@ use Rattle.storage.specs.declared.slot.Current.{Current}
 use Rattle.storage.specs.declared.slot.Current.the-variants.{First, Second, Neither}
 use Rattle.storage.specs.declared.operation.Target.{Target}
 use Rattle.storage.specs.declared.operation.Read.{Read}
+use Rattle.storage.specs.Sizes.{slotSize}
 use Rattle.storage.specs.Slots.{currentOf, heldOf, storedSlot, otherAt}
 use Rattle.storage.specs.Log.{markOf}
 use Rattle.storage.specs.Operations.{slotWrite, placeWrite, wipes, promising, closing, prepareWrites, trimWrites, appendWrites, noteWrites}
 use Rattle.storage.specs.AsRead.{AsRead}
 
-pub other-le : (c : Current) → otherAt c ≤ 32
+pub other-le : (c : Current) → otherAt c ≤ slotSize
 other-le First = lit≤ tt
 other-le Second = lit≤ tt
 other-le Neither = lit≤ tt

@@ -3,6 +3,7 @@ use mathlib.Core.Path.{_≡_, sym, ap, _∙_}
 use Prim.Native.Nat.{_≤_}
 use lib.ListN.{length}
 use Rattle.octets.specs.Octets.{allZero, part}
+use Rattle.storage.specs.Sizes.{placeSize, dataLimit}
 use Rattle.storage.specs.Places.{idOf, sizeOf}
 use Rattle.storage.proofs.PlaceCases.{bad-length, bad-id, bad-size, bad-tail, by-check, tail-is}
 use native.Mathlib.Omega.{arith}
@@ -30,7 +31,7 @@ unfolding idOf
 returns-2 c =
     let n = c .before .before .before .before .before .args .n in
     let s = c .before .before .before .before .before .args .s .now in
-    let l : length s ≡ 64 = c .before .before .before .if1 .left in
+    let l : length s ≡ placeSize = c .before .before .before .if1 .left in
     bad-id n s (λ i. c .if2 .taken (c .before .get-be .ensures .0 ∙ i))
 
 sub-get-be-2 : tie.Need-sub-get-be-2
@@ -50,7 +51,7 @@ unfolding idOf sizeOf
 returns-3 c =
     let n = c .before .before .before .before .before .before .before .before .args .n in
     let s = c .before .before .before .before .before .before .before .before .args .s .now in
-    let l : length s ≡ 64 = c .before .before .before .before .before .before .if1 .left in
+    let l : length s ≡ placeSize = c .before .before .before .before .before .before .if1 .left in
     let i : idOf s ≡ n = sym (c .before .before .before .before .get-be .ensures .0) ∙ c .before .before .before .if2 .left in
     let e : c .before .get-be2 .result ≡ sizeOf s = c .before .get-be2 .ensures .0 in
     bad-size n s l (omega (arith, e, c .if3 .taken))
@@ -75,10 +76,10 @@ unfolding idOf sizeOf
 returns-4 c =
     let n = c .before .before .before .before .before .before .before .before .before .before .before .args .n in
     let s = c .before .before .before .before .before .before .before .before .before .before .before .args .s .now in
-    let l : length s ≡ 64 = c .before .before .before .before .before .before .before .before .before .if1 .left in
+    let l : length s ≡ placeSize = c .before .before .before .before .before .before .before .before .before .if1 .left in
     let i : idOf s ≡ n = sym (c .before .before .before .before .before .before .before .get-be .ensures .0) ∙ c .before .before .before .before .before .before .if2 .left in
     let e : c .before .before .before .before .get-be2 .result ≡ sizeOf s = c .before .before .before .before .get-be2 .ensures .0 in
-    let z : sizeOf s ≤ 28 = omega (arith, e, c .before .before .before .if3 .left) in
+    let z : sizeOf s ≤ dataLimit = omega (arith, e, c .before .before .before .if3 .left) in
     bad-tail n s l z (sym (c .before .all-zero .ensures ∙ ap allZero (tail-is (c .before .before .before .before .get-be2 .result) s e)) ∙ not-true _ (c .if4 .taken))
 
 check-requires : tie.Need-check-requires
@@ -89,10 +90,10 @@ unfolding idOf sizeOf
 returns-5 c =
     let n = c .before .before .before .before .before .before .before .before .before .before .before .before .args .n in
     let s = c .before .before .before .before .before .before .before .before .before .before .before .before .args .s .now in
-    let l : length s ≡ 64 = c .before .before .before .before .before .before .before .before .before .before .if1 .left in
+    let l : length s ≡ placeSize = c .before .before .before .before .before .before .before .before .before .before .if1 .left in
     let i : idOf s ≡ n = sym (c .before .before .before .before .before .before .before .before .get-be .ensures .0) ∙ c .before .before .before .before .before .before .before .if2 .left in
     let e : c .before .before .before .before .before .get-be2 .result ≡ sizeOf s = c .before .before .before .before .before .get-be2 .ensures .0 in
-    let z : sizeOf s ≤ 28 = omega (arith, e, c .before .before .before .before .if3 .left) in
+    let z : sizeOf s ≤ dataLimit = omega (arith, e, c .before .before .before .before .if3 .left) in
     c .check .ensures ∙ by-check n s l z i (sym (c .before .before .all-zero .ensures ∙ ap allZero (tail-is (c .before .before .before .before .before .get-be2 .result) s e)) ∙ not-false _ (c .before .if4 .left))
 
 pub valid-spec : {M : Type 1} → statement M

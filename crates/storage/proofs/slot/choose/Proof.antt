@@ -5,6 +5,7 @@ use Prim.Native.Nat.{ℕ, _≤_, zero-le}
 use lib.ListN.{length}
 use borrow.Author.Tests.{eq-eqb, ne-eqb, lt-ltb, le-ltb, not-true, not-false}
 use Rattle.octets.specs.Octets.{part, allZero, writeAt, fieldsOf}
+use Rattle.storage.specs.Sizes.{slotSize}
 use Rattle.storage.specs.Slots.{slotNumbers, validSlot, slotOf, slotBytes, newer, currentOf, heldOf, otherAt}
 use native.Mathlib.Omega.{arith}
 use borrow.Author.Needs.{needs}
@@ -39,16 +40,16 @@ returns : tie.Need-returns
 unfolding currentOf
 returns c =
     let m = c .before .before .before .before .before .before .before .args .m .now in
-    let a : validSlot (part 0 32 m) ≡ false = sym (c .before .before .before .before .valid .ensures) ∙ not-true _ (c .before .before .before .if1 .taken) in
-    let b : validSlot (part 32 32 m) ≡ false = sym (c .before .valid2 .ensures) ∙ not-true _ (c .if2 .taken) in
+    let a : validSlot (part 0 slotSize m) ≡ false = sym (c .before .before .before .before .valid .ensures) ∙ not-true _ (c .before .before .before .if1 .taken) in
+    let b : validSlot (part slotSize slotSize m) ≡ false = sym (c .before .valid2 .ensures) ∙ not-true _ (c .if2 .taken) in
     rw (a, b)
 
 returns-2 : tie.Need-returns-2
 unfolding currentOf
 returns-2 c =
     let m = c .before .before .before .before .before .before .before .args .m .now in
-    let a : validSlot (part 0 32 m) ≡ false = sym (c .before .before .before .before .valid .ensures) ∙ not-true _ (c .before .before .before .if1 .taken) in
-    let b : validSlot (part 32 32 m) ≡ true = sym (c .before .valid2 .ensures) ∙ not-false _ (c .if2 .left) in
+    let a : validSlot (part 0 slotSize m) ≡ false = sym (c .before .before .before .before .valid .ensures) ∙ not-true _ (c .before .before .before .if1 .taken) in
+    let b : validSlot (part slotSize slotSize m) ≡ true = sym (c .before .valid2 .ensures) ∙ not-false _ (c .if2 .left) in
     rw (a, b)
 
 sub-valid-3 : tie.Need-sub-valid-3
@@ -67,8 +68,8 @@ returns-3 : tie.Need-returns-3
 unfolding currentOf
 returns-3 c =
     let m = c .before .before .before .before .before .before .before .args .m .now in
-    let a : validSlot (part 0 32 m) ≡ true = sym (c .before .before .before .before .valid .ensures) ∙ not-false _ (c .before .before .before .if1 .left) in
-    let b : validSlot (part 32 32 m) ≡ false = sym (c .before .valid3 .ensures) ∙ not-true _ (c .if3 .taken) in
+    let a : validSlot (part 0 slotSize m) ≡ true = sym (c .before .before .before .before .valid .ensures) ∙ not-false _ (c .before .before .before .if1 .left) in
+    let b : validSlot (part slotSize slotSize m) ≡ false = sym (c .before .valid3 .ensures) ∙ not-true _ (c .if3 .taken) in
     rw (a, b)
 
 sub-read : tie.Need-sub-read
@@ -102,18 +103,18 @@ returns-4 : tie.Need-returns-4
 unfolding currentOf
 returns-4 c =
     let m = c .before .before .before .before .before .before .before .before .before .before .before .before .before .args .m .now in
-    let a : validSlot (part 0 32 m) ≡ true = sym (c .before .before .before .before .before .before .before .before .before .before .valid .ensures) ∙ not-false _ (c .before .before .before .before .before .before .before .before .before .if1 .left) in
-    let b : validSlot (part 32 32 m) ≡ true = sym (c .before .before .before .before .before .before .before .valid3 .ensures) ∙ not-false _ (c .before .before .before .before .before .before .if3 .left) in
-    let n : newer (slotOf (part 0 32 m)) (slotOf (part 32 32 m)) ≡ true = sym (c .before .supersedes .ensures ∙ ap₂ newer (c .before .before .before .before .read .ensures) (c .before .before .read2 .ensures)) ∙ c .if4 .taken in
+    let a : validSlot (part 0 slotSize m) ≡ true = sym (c .before .before .before .before .before .before .before .before .before .before .valid .ensures) ∙ not-false _ (c .before .before .before .before .before .before .before .before .before .if1 .left) in
+    let b : validSlot (part slotSize slotSize m) ≡ true = sym (c .before .before .before .before .before .before .before .valid3 .ensures) ∙ not-false _ (c .before .before .before .before .before .before .if3 .left) in
+    let n : newer (slotOf (part 0 slotSize m)) (slotOf (part slotSize slotSize m)) ≡ true = sym (c .before .supersedes .ensures ∙ ap₂ newer (c .before .before .before .before .read .ensures) (c .before .before .read2 .ensures)) ∙ c .if4 .taken in
     rw (a, b, n)
 
 returns-5 : tie.Need-returns-5
 unfolding currentOf
 returns-5 c =
     let m = c .before .before .before .before .before .before .before .before .before .before .before .before .before .args .m .now in
-    let a : validSlot (part 0 32 m) ≡ true = sym (c .before .before .before .before .before .before .before .before .before .before .valid .ensures) ∙ not-false _ (c .before .before .before .before .before .before .before .before .before .if1 .left) in
-    let b : validSlot (part 32 32 m) ≡ true = sym (c .before .before .before .before .before .before .before .valid3 .ensures) ∙ not-false _ (c .before .before .before .before .before .before .if3 .left) in
-    let n : newer (slotOf (part 0 32 m)) (slotOf (part 32 32 m)) ≡ false = sym (c .before .supersedes .ensures ∙ ap₂ newer (c .before .before .before .before .read .ensures) (c .before .before .read2 .ensures)) ∙ c .if4 .left in
+    let a : validSlot (part 0 slotSize m) ≡ true = sym (c .before .before .before .before .before .before .before .before .before .before .valid .ensures) ∙ not-false _ (c .before .before .before .before .before .before .before .before .before .if1 .left) in
+    let b : validSlot (part slotSize slotSize m) ≡ true = sym (c .before .before .before .before .before .before .before .valid3 .ensures) ∙ not-false _ (c .before .before .before .before .before .before .if3 .left) in
+    let n : newer (slotOf (part 0 slotSize m)) (slotOf (part slotSize slotSize m)) ≡ false = sym (c .before .supersedes .ensures ∙ ap₂ newer (c .before .before .before .before .read .ensures) (c .before .before .read2 .ensures)) ∙ c .if4 .left in
     rw (a, b, n)
 
 pub choose-spec : {M : Type 1} → statement M

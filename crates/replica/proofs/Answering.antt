@@ -117,7 +117,6 @@ module _ (r : Read) (N : ℕ) (m : List ℕ) (e : r .places ≡ N) (a : AsRead r
     behind (op.Append i) d b k q =
         let same : i ≡ k = cc in
         omega (arith, same, d, mark-of, same-mark (lacksSlot r) (readPromise false r s) (r .mark) n b)
-    behind op.Read d b k q = let z : _≡_ {A = ℕ} 0 1 = cc in absurd (omega arith)
 
     -- what is known of the mark after it
     pub known-mark :

@@ -32,7 +32,6 @@ prepares (op.Prepare session to) = true
 prepares (op.Trim t) = false
 prepares (op.Note low local) = false
 prepares (op.Append n) = false
-prepares op.Read = false
 
 -- 19 "Its promise is above the session (prepare) or differs from it (others)"
 abbrev pub otherPromise : Bool → ℕ → List ℕ → Bool
@@ -92,4 +91,3 @@ Behind recorded (op.Prepare session to) = Unit {0}
 Behind recorded (op.Trim t) = Unit {0}
 Behind recorded (op.Note low local) = Unit {0}
 Behind recorded (op.Append n) = n ≡ recorded
-Behind recorded op.Read = Unit {0}

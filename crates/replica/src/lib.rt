@@ -62,7 +62,6 @@ fn is_prepare(op: Operation) -> bool
         Operation::Trim(_) => false,
         Operation::Note(_, _) => false,
         Operation::Append(_) => false,
-        Operation::Read => false,
     }
 }
 

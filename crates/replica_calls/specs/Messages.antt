@@ -25,7 +25,6 @@ appends (op.Prepare session to) = false
 appends (op.Trim t) = false
 appends (op.Note low local) = false
 appends (op.Append n) = true
-appends op.Read = false
 
 -- 18 to 20
 abbrev pub receivedBy : ℕ → Server → ℕ → Operation → List ℕ → Fate → List Row

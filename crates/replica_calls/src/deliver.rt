@@ -44,7 +44,6 @@ fn is_append(op: Operation) -> bool
         Operation::Trim(_) => false,
         Operation::Note(_, _) => false,
         Operation::Append(_) => true,
-        Operation::Read => false,
     }
 }
 

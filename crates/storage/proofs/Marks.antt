@@ -16,7 +16,7 @@ use Rattle.storage.specs.declared.slot.Current.{Current}
 use Rattle.storage.specs.declared.operation.Target.{Target}
 use Rattle.storage.specs.declared.operation.Target.the-variants.{Whole, Mark}
 use Rattle.storage.specs.declared.operation.Operation.{Operation}
-use Rattle.storage.specs.declared.operation.Operation.the-variants.{Prepare, Trim, Note, Append, Read}
+use Rattle.storage.specs.declared.operation.Operation.the-variants.{Prepare, Trim, Note, Append}
 use Rattle.storage.specs.Sizes.{slotsSize, placeSize, mediumSize, placeOffset}
 use Rattle.storage.specs.Places.{validPlace, wiped}
 use Rattle.storage.specs.Slots.{slotBytes, currentOf, storedSlot, otherAt}
@@ -163,4 +163,3 @@ performed-mark N (Prepare s to) bs m e l p b = prepared-mark N s to m e
 performed-mark N (Trim t) bs m e l p b = trimmed-mark N t m e
 performed-mark N (Note low local) bs m e l p b = noted-mark N low local m e
 performed-mark N (Append n) bs m e l p b = append-reaches N n m bs e (b n refl) p l
-performed-mark N Read bs m e l p b = refl

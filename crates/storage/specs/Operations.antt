@@ -12,7 +12,7 @@ use Rattle.storage.specs.declared.slot.Current.{Current}
 use Rattle.storage.specs.declared.operation.Target.{Target}
 use Rattle.storage.specs.declared.operation.Target.the-variants.{Whole, Mark}
 use Rattle.storage.specs.declared.operation.Operation.{Operation}
-use Rattle.storage.specs.declared.operation.Operation.the-variants.{Prepare, Trim, Note, Append, Read}
+use Rattle.storage.specs.declared.operation.Operation.the-variants.{Prepare, Trim, Note, Append}
 use Rattle.storage.specs.Sizes.{placeOffset, mediumSize}
 use Rattle.storage.specs.Places.{wiped}
 use Rattle.storage.specs.Slots.{slotBytes, currentOf, storedSlot, otherAt}
@@ -72,7 +72,6 @@ writesOf N bs (Prepare session to) m = prepareWrites N session to m
 writesOf N bs (Trim t) m = trimWrites N t m
 writesOf N bs (Note low local) m = noteWrites low local m
 writesOf N bs (Append n) m = appendWrites n bs
-writesOf N bs Read m = []
 
 -- an append writes a place of the medium
 abbrev pub HasPlace : ℕ → Operation → Type 0
@@ -80,7 +79,6 @@ HasPlace N (Prepare session to) = Unit {0}
 HasPlace N (Trim t) = Unit {0}
 HasPlace N (Note low local) = Unit {0}
 HasPlace N (Append n) = n < N
-HasPlace N Read = Unit {0}
 
 -- what is known, before any byte is read again, of the mark of m after an operation on a log with mark n: behind an append the log may go on
 abbrev pub MarkKnown : ℕ → Operation → ℕ → List ℕ → Type 0
@@ -88,7 +86,6 @@ MarkKnown N (Prepare session to) n m = markOf N m ≡ closedMark to n
 MarkKnown N (Trim t) n m = markOf N m ≡ min t n
 MarkKnown N (Note low local) n m = markOf N m ≡ n
 MarkKnown N (Append k) n m = n ≤ markOf N m
-MarkKnown N Read n m = markOf N m ≡ n
 
 -- "The media lie one after another in a single lent slice": replica i's medium, and the media with another in its place
 abbrev pub mediumAt : ℕ → ℕ → List ℕ → List ℕ

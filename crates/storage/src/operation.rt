@@ -29,13 +29,12 @@ pub enum Target {
 }
 
 // A replica's operations. Prepare: the session that it promises, and what it truncates to; Trim: the mark that it truncates to; Note: the
-// low-water marks; Append: the mark behind which a record is written, whose bytes lie beside it; Read writes nothing.
+// low-water marks; Append: the mark behind which a record is written, whose bytes lie beside it.
 pub enum Operation {
     Prepare(u64, Target),
     Trim(u64),
     Note(u64, u64),
     Append(u64),
-    Read,
 }
 
 // What a replica reads of its medium before it acts: its places, its current slot, what that holds, and its mark.
@@ -180,7 +179,6 @@ pub fn perform(
         Operation::Trim(to) => trim(m, read, to, given, f),
         Operation::Note(low, local) => note(t, m, read, low, local, given, f),
         Operation::Append(n) => append(m, read, n, src, given, f),
-        Operation::Read => {}
     }
 }
 
@@ -212,7 +210,6 @@ pub fn mark_after(t: &Tables, m: &[u8], places: usize, op: Operation, n: u64) ->
         Operation::Trim(to) => lesser(to, n),
         Operation::Note(_, _) => n,
         Operation::Append(_) => medium::mark_from(t, m, places, n as usize) as u64,
-        Operation::Read => n,
     }
 }
 

@@ -41,7 +41,7 @@ pub fn fate_field(c: Command) -> usize
 // The operation that the fields before the fate say, on a log with this mark; the bytes of an append go to src.
 pub fn read(line: &[u8], c: Command, mark: u64, src: &mut [u8]) -> Asked {
     match c {
-        Command::Medium => Asked::Is(Operation::Read),
+        Command::Medium => Asked::Unfit,
         Command::Prepare => prepare(line),
         Command::Append => append(line, mark, src),
         Command::Truncate => truncate(line),
@@ -104,6 +104,5 @@ pub fn has_place(op: Operation, places: u64) -> bool
         Operation::Prepare(_, _) => true,
         Operation::Trim(_) => true,
         Operation::Note(_, _) => true,
-        Operation::Read => true,
     }
 }

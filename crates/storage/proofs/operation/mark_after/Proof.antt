@@ -26,9 +26,6 @@ mark-from-requires c κs =
     let p = c .before .before .before .pre in
     (p .0, (p .1 .0, rw (c .enum-told2 .given .1) at (p .1 .1)))
 
-enum-told-3 : tie.Need-enum-told-3
-enum-told-3 c = search needs
-
 returns : tie.Need-returns
 returns c = c .closed-mark .ensures ∙ sym (rw (c .before .before .op .given .1) at (c .before .before .before .before .before .pre .1 .1))
 
@@ -41,9 +38,6 @@ returns-3 c = sym (rw (c .enum-told .given .1) at (c .before .before .before .pr
 returns-4 : tie.Need-returns-4
 returns-4 c = search needs
 
-returns-5 : tie.Need-returns-5
-returns-5 c = sym (rw (c .enum-told3 .given .1) at (c .before .before .before .pre .1 .1))
-
 pub mark-after-spec : {M : Type 1} → statement M
 mark-after-spec =
     tie.close
@@ -55,9 +49,7 @@ mark-after-spec =
     enum-told
     enum-told-2
     mark-from-requires
-    enum-told-3
     returns
     returns-2
     returns-3
-    returns-4
-    returns-5)
+    returns-4)

@@ -1,5 +1,3 @@
-use mathlib.Core.Path.{sym}
-use Rattle.storage.proofs.Writing.{no-writes}
 use borrow.Author.Needs.{needs}
 use Rattle.storage.proofs.operation.perform.Statement.{statement}
 use Rattle.storage.proofs.operation.perform.Tie as tie
@@ -30,9 +28,6 @@ append-requires c κs =
     let p = c .before .before .before .before .before .before .before .pre in
     (p .1 .0, (rw (c .before .before .op4 .given .1) at (p .1 .1 .0), p .1 .1 .1))
 
-enum-told : tie.Need-enum-told
-enum-told c = search needs
-
 same-length : tie.Need-same-length
 same-length c = search needs
 
@@ -57,9 +52,6 @@ same-length-4 c = search needs
 returns-4 : tie.Need-returns-4
 returns-4 c = rw (c .before .before .before .before .before .op4 .given .1) (c .before .before .append .ensures)
 
-returns-5 : tie.Need-returns-5
-returns-5 c = rw (c .enum-told .given .1) (sym (no-writes _ _ _))
-
 pub perform-spec : {M : Type 1} → statement M
 perform-spec =
     tie.close
@@ -72,7 +64,6 @@ perform-spec =
     note-requires
     enum-known-op-4
     append-requires
-    enum-told
     same-length
     returns
     same-length-2
@@ -80,5 +71,4 @@ perform-spec =
     same-length-3
     returns-3
     same-length-4
-    returns-4
-    returns-5)
+    returns-4)

@@ -41,6 +41,11 @@ module _ (r : Records) (media tables : List ℕ) (e : Result) (ws us : List Row)
   unfolding unless andThen
   goes-on q d = rw (firstOf-append ws us, ← checked, q) d
 
+-- nothing is left to be checked
+pub nothing-more : {y e : Result} (x : State) → y ≡ e → y ≡ rest [] x e
+unfolding unless firstOf
+nothing-more x d = d
+
 -- what a check that passed says of its rows: a condition is looked up by its number
 pub holds-not : (ws : List Row) {k : Check} → verdictOf k ≡ firstOf ws → k ≡ Pass → (n : ℕ) → conditionOf n ws ≡ false
 holds-not ws v q = passed ws (sym v ∙ ap verdictOf q)

@@ -3,11 +3,12 @@
 pub mod vote;
 
 ghost use mathlib.Core.Path.{_≡_};
-ghost use mathlib.Core.Bool.{_&&_, _||_, not, cond};
+ghost use mathlib.Core.Bool.{_&&_, _||_, not, cond, false};
 ghost use mathlib.Core.List.{List, [], _∷_};
 ghost use Prim.Native.Nat.{ℕ, _≤_, _<_};
-ghost use lib.ListN.{length};
+ghost use lib.ListN.{length, getD, replicate};
 ghost use lib.Dec.{ltb, leb};
+ghost use Rattle.base.specs.Below.{upTo};
 ghost use Rattle.cluster.specs.Refusals.{replicasFit, outside, closingFits, entriesFit, serverFits, markAbove, allows, clusterRows, serverRows, phaseRows, replicaRows, firstOf, andThen};
 ghost use Rattle.checks.specs.Results.{stateOf, declinedOf, silentOf, valueOf, doneOf, changed, unchanged};
 ghost use Rattle.checks.specs.Verdicts.{belowFits, verdictOf, rowOf, phaseAt};
@@ -148,6 +149,23 @@ fn mark_above(records: Records, shape: Shape) -> bool
         ok = both(ok, server_fits(s, shape));
     }
     !both(entries_fit(entries, shape), ok)
+}
+
+fn active(known: bool, dropped: bool) -> bool
+    ensures { λ b. ⌜ b ≡ (known && not dropped) ⌝ }
+{
+    if known { !dropped } else { false }
+}
+
+// The replicas that a server may use: known, or members, and not dropped.
+pub fn active_flags(known: [bool; 7], dropped: [bool; 7]) -> [bool; 7]
+    ensures { λ a. ⌜ a ≡ upTo (λ i. getD known i false && not (getD dropped i false)) (replicate 7 false) 7 ⌝ }
+{
+    let mut flags = [false; 7];
+    for i in 0..7 {
+        flags[i] = active(known[i], dropped[i]);
+    }
+    flags
 }
 
 // The phase of a server, idle where there is none.

@@ -1,32 +1,37 @@
--- open's message, case by case, and the refusals of the vote before it.
+-- open's vote as it is counted, and the lists made by its flags.
 -- Assumes nothing.
 use mathlib.Core.Path.{_≡_, refl, sym, ap, ap₂, _∙_}
 use mathlib.Core.Bool.{Bool, true, false, not, cond, _&&_}
-use mathlib.Core.List.{List, [], _∷_, _++_}
-use Prim.Native.Nat.{ℕ, _+_, _*_, _≤_, _<_}
+use mathlib.Core.List.{List, [], _∷_}
+use Prim.Native.Nat.{ℕ, zero, suc, _≤_, _<_}
 use native.Mathlib.Omega.{arith}
-use lib.Dec.{ltb}
-use lib.ListN.{length, getD, replicate, length-replicate}
-use borrow.Author.Tests.{lt-ltb, le-ltb}
+use lib.Dec.{eqb}
+use lib.ListN.{getD, set, replicate, length-replicate}
 use Rattle.base.specs.Below.{count, upTo}
 use Rattle.base.proofs.Below.{upTo-at}
-use Rattle.base.proofs.Same.{count-same}
+use Rattle.base.proofs.Same.{Same, count-same}
 use Rattle.quorum.specs.declared.Vote.{Vote}
 use Rattle.quorum.specs.declared.Vote.the-variants.{Undecided, Decided}
-use Rattle.quorum.specs.Vote.{flagsOf, quorum, majorityMark, decided, voteOf}
+use Rattle.quorum.specs.Vote.{flagsOf, majorityMark, decided, voteOf}
+use Rattle.quorum.proofs.Same.{vote-same}
 use Rattle.fate.specs.declared.Fate.{Fate}
-use Rattle.fate.specs.declared.Fate.the-variants.{Answered, Lost, AnswerLost, Cut}
-use Rattle.fate.specs.declared.Left.{Left}
+use Rattle.cluster.specs.declared.Register.{Register}
 use Rattle.cluster.specs.declared.Server.{Server}
-use Rattle.cluster.specs.declared.Records.{Records}
-use Rattle.cluster.specs.declared.Outcome.{Outcome}
-use Rattle.cluster.specs.declared.Refusal.the-variants as why
-use Rattle.cluster.specs.State.{State, idleServer, serverAt, putServer, putRegister, markAt, activeAt, tableSize, withTable}
-use Rattle.cluster.specs.Refusals.{voteMark, cleanAt, answered, sessionDiffers, row, firstOf}
-use Rattle.cluster.specs.Effects.{Result, openedRegister, openedServer, openEffect}
-use Rattle.cluster.specs.Step.{unless}
-use Rattle.checks.specs.Results.{stateOf, resultOf, declinedOf, silentOf, valueOf}
-use Rattle.register_calls.specs.Opening.{cleanBy, registerBy, openedBy, openRows, openBy}
+use Rattle.cluster.specs.State.{markAt, activeAt, entryAt}
+use Rattle.cluster.specs.Refusals.{isCut, undecided, voteMark, cleanAt, tooFewClean, sessionDiffers, Row, row, seen, declined, firstOf}
+use Rattle.cluster.specs.Effects.{entryAfter}
+use Rattle.register_calls.specs.declared.open.Ballot.{Ballot}
+use Rattle.register_calls.specs.Settled.{Counted}
+
+-- a list written anew depends only on the values below n
+pub upTo-same : {A : Type 0} (n : ℕ) (f g : ℕ → A) (l : List A) → Same n f g → upTo f l n ≡ upTo g l n
+unfolding upTo
+upTo-same zero f g l e = refl
+upTo-same (suc n) f g l e = ap₂ (λ (xs : List _) (x : _). set xs n x) (upTo-same n f g l (λ i h. e i (omega arith))) (e n (omega arith))
+
+-- an array of flags read at a number below r
+pub flag-at : (p : ℕ → Bool) (r n i : ℕ) (flags : List Bool) → n ≤ 7 → i < n → flags ≡ upTo p (replicate 7 false) n → flagsOf flags i ≡ p i
+flag-at p r n i flags h l e = ap (λ (f : List Bool). getD f i false) e ∙ upTo-at p (replicate 7 false) n i false l (omega (arith, length-replicate {A = Bool} 7 false))
 
 -- ---- the vote
 
@@ -38,84 +43,55 @@ decided-is : (b : Bool) (m d : ℕ) → cond b (Decided m) Undecided ≡ Decided
 decided-is true m d e = (refl, cc)
 decided-is false m d e = let z : _≡_ {A = ℕ} 0 1 = cc in absurd (omega arith)
 
-module _ (v : Server) (r : ℕ) where
-  pub not-decided : voteOf (activeAt v) (markAt v) r ≡ Undecided → decided (activeAt v) (markAt v) r ≡ false
+module _ (v : Server) (r : ℕ) (flags : List Bool) (h : r ≤ 7) (e : flags ≡ upTo (activeAt v) (replicate 7 false) 7) where
+  active-is : Same r (flagsOf flags) (activeAt v)
+  active-is i l = flag-at (activeAt v) r 7 i flags (omega arith) (omega arith) e
+
+  vote-is : voteOf (flagsOf flags) (markAt v) r ≡ voteOf (activeAt v) (markAt v) r
+  vote-is = vote-same r (flagsOf flags) (activeAt v) (markAt v) active-is
+
+  pub not-decided : {x : Vote} → x ≡ voteOf (flagsOf flags) (markAt v) r → x ≡ Undecided → true ≡ undecided r v
   unfolding voteOf
-  not-decided e = undecided-is (decided (activeAt v) (markAt v) r) (majorityMark (activeAt v) (markAt v) r) e
+  not-decided q u = sym (ap not (undecided-is (decided (activeAt v) (markAt v) r) (majorityMark (activeAt v) (markAt v) r) (sym vote-is ∙ sym q ∙ u)))
 
-  pub is-decided : (d : ℕ) → voteOf (activeAt v) (markAt v) r ≡ Decided d → (decided (activeAt v) (markAt v) r ≡ true) × (voteMark r v ≡ d)
+  pub is-decided : {x : Vote} (d : ℕ) → x ≡ voteOf (flagsOf flags) (markAt v) r → x ≡ Decided d → (false ≡ undecided r v) × (d ≡ voteMark r v)
   unfolding voteOf
-  is-decided d e = decided-is (decided (activeAt v) (markAt v) r) (majorityMark (activeAt v) (markAt v) r) d e
+  is-decided d q u =
+      let w = decided-is (decided (activeAt v) (markAt v) r) (majorityMark (activeAt v) (markAt v) r) d (sym vote-is ∙ sym q ∙ u) in
+      (sym (ap not (w .0)), sym (w .1))
 
-  -- the clean replicas, counted in the array
-  pub clean-count : (d : ℕ) (flags : List Bool) → r ≤ 7 → voteMark r v ≡ d → flags ≡ upTo (cleanBy v d) (replicate 7 false) r → count (flagsOf flags) r ≡ count (cleanAt r v) r
-  clean-count d flags h m e =
-      count-same r (flagsOf flags) (cleanAt r v)
-      (λ i l. ap (λ (f : List Bool). getD f i false) e
-      ∙ upTo-at (cleanBy v d) (replicate 7 false) r i false l (omega (arith, length-replicate {A = Bool} 7 false)) ∙ ap (λ (k : ℕ). cleanBy v k i) (sym m))
+  -- the clean ones among them, and how many they are
+  pub clean-is : (d : ℕ) {clean : List Bool} → clean ≡ upTo (λ i. flagsOf flags i && eqb (markAt v i) d) (replicate 7 false) r → clean ≡ upTo (cleanAt v d) (replicate 7 false) r
+  clean-is d q = q ∙ upTo-same r _ (cleanAt v d) (replicate 7 false) (λ i l. ap (λ (b : Bool). b && eqb (markAt v i) d) (active-is i l))
 
--- with the mark of the vote, the code's open is the definition's
-open-by : (r d : ℕ) (x : State) (s : ℕ) (f : Fate) → voteMark r (serverAt (x .records) s) ≡ d → openBy r d x s f ≡ openEffect r x s f
-unfolding openBy registerBy openedBy openEffect openedRegister openedServer
-open-by r d x s f e = ap (λ (k : ℕ). openBy r k x s f) (sym e)
+-- what is made by the clean flags
+module _ (v : Server) (d r : ℕ) (clean : List Bool) (h : r ≤ 7) (e : clean ≡ upTo (cleanAt v d) (replicate 7 false) r) where
+  clean-at : Same r (flagsOf clean) (cleanAt v d)
+  clean-at i l = flag-at (cleanAt v d) r r i clean h l e
 
--- ---- 8 and 9
+  pub clean-count : count (flagsOf clean) r ≡ count (cleanAt v d) r
+  clean-count = count-same r (flagsOf clean) (cleanAt v d) clean-at
 
-module _ (r : ℕ) (records : Records) (i : ℕ) (f : Fate) (o : Outcome) (media tables : List ℕ) where
-  abbrev x : State
-  x = stateOf records media tables
+  pub entries-are :
+      (g : Register)
+      → upTo (λ i. entryAfter (entryAt (g .entries) i) (flagsOf clean i) (v .session) d) (g .entries) r
+      ≡ upTo (λ i. entryAfter (entryAt (g .entries) i) (cleanAt v d i) (v .session) d) (g .entries) r
+  entries-are g = upTo-same r _ _ (g .entries) (λ i l. ap (λ (b : Bool). entryAfter (entryAt (g .entries) i) b (v .session) d) (clean-at i l))
 
-  abbrev v : Server
-  v = serverAt records i
+  pub marks-are : upTo (λ i. cond (flagsOf clean i) d 0) (replicate 7 0) r ≡ upTo (λ i. cond (cleanAt v d i) d 0) (replicate 7 0) r
+  marks-are = upTo-same r _ _ (replicate 7 0) (λ i l. ap (λ (b : Bool). cond b d 0) (clean-at i l))
 
-  pub no-vote : decided (activeAt v) (markAt v) r ≡ false → o ≡ declinedOf records why.Undecided
-      → resultOf o media tables ≡ unless (firstOf (openRows r records i f)) x (openEffect r x i f)
-  unfolding firstOf unless
-  no-vote u q = rw (q, u)
-
-  pub few-clean : decided (activeAt v) (markAt v) r ≡ true → count (cleanAt r v) r < quorum r → o ≡ declinedOf records why.TooFewClean
-      → resultOf o media tables ≡ unless (firstOf (openRows r records i f)) x (openEffect r x i f)
-  unfolding firstOf unless
-  few-clean u l q = rw (q, u, lt-ltb (count (cleanAt r v) r) (quorum r) l)
-
-  pub voted : (d : ℕ) (y : Result) → decided (activeAt v) (markAt v) r ≡ true → voteMark r v ≡ d → quorum r ≤ count (cleanAt r v) r
-      → y ≡ unless (firstOf (row 22 (answered f && sessionDiffers (records .register) v) ∷ [])) x (openBy r d x i f)
-      → y ≡ unless (firstOf (openRows r records i f)) x (openEffect r x i f)
-  unfolding firstOf
-  voted d y u m l q = rw (u, le-ltb (count (cleanAt r v) r) (quorum r) l) (q ∙ ap (unless (firstOf (row 22 (answered f && sessionDiffers (records .register) v) ∷ [])) x) (open-by r d x i f m))
-
--- ---- the message
-
-abbrev pub Opens : ℕ → ℕ → Records → ℕ → Fate → Outcome → List ℕ → List ℕ → Type 0
-Opens r d records i f o tables tables′ =
-    (media : List ℕ)
-    → resultOf o media tables′
-    ≡ unless (firstOf (row 22 (answered f && sessionDiffers (records .register) (serverAt records i)) ∷ [])) (stateOf records media tables) (openBy r d (stateOf records media tables) i f)
-
-module _ (r d : ℕ) (records : Records) (i : ℕ) (f : Fate) (o : Outcome) (tables : List ℕ) where
-  pub declines : f ≡ Answered → sessionDiffers (records .register) (serverAt records i) ≡ true → o ≡ declinedOf records why.OtherSession → Opens r d records i f o tables tables
-  unfolding firstOf unless openBy
-  declines e t q media = rw (q, e, t)
-
-  pub answers : (tables′ : List ℕ) → f ≡ Answered → sessionDiffers (records .register) (serverAt records i) ≡ false
-      → let v = serverAt records i in o ≡ valueOf (putServer (putRegister records (registerBy r (records .register) v d)) i (openedBy r v d)) d
-      → tables′ ≡ withTable i (replicate tableSize d) tables → Opens r d records i f o tables tables′
-  unfolding firstOf unless openBy
-  answers tables′ e t q w media = rw (q, e, t, w)
-
-  pub loses : f ≡ Lost → o ≡ silentOf (putServer records i idleServer) → Opens r d records i f o tables tables
-  unfolding firstOf unless openBy
-  loses e q media = rw (q, e)
-
-  pub registers : f ≡ AnswerLost → sessionDiffers (records .register) (serverAt records i) ≡ false
-      → o ≡ silentOf (putServer (putRegister records (registerBy r (records .register) (serverAt records i) d)) i idleServer) → Opens r d records i f o tables tables
-  unfolding firstOf unless openBy
-  registers e t q media = rw (q, e, t)
-
-  pub stays : f ≡ AnswerLost → sessionDiffers (records .register) (serverAt records i) ≡ true → o ≡ silentOf (putServer records i idleServer) → Opens r d records i f o tables tables
-  unfolding firstOf unless openBy
-  stays e t q media = rw (q, e, t)
-
-  pub cut : (w : ℕ) (l : Left) → f ≡ Cut w l → o ≡ silentOf (putServer records i idleServer) → Opens r d records i f o tables tables
-  unfolding firstOf unless openBy
-  cut w l e q media = rw (q, e)
+-- 8 and 9 by the ballot: 9 need only be right if the mark is decided
+pub ballot-rows :
+    (v : Server) (r : ℕ) (b : Ballot) (a z : Row)
+    → Counted v r b
+    → firstOf (a ∷ row 8 (not (b .decided)) ∷ row 9 (b .few) ∷ z ∷ []) ≡ firstOf (a ∷ row 8 (undecided r v) ∷ row 9 (tooFewClean r v (voteMark r v)) ∷ z ∷ [])
+unfolding firstOf
+ballot-rows v r b a z n = go (b .decided) refl
+  where
+    go :
+        (t : Bool)
+        → b .decided ≡ t
+        → firstOf (a ∷ row 8 (not (b .decided)) ∷ row 9 (b .few) ∷ z ∷ []) ≡ firstOf (a ∷ row 8 (undecided r v) ∷ row 9 (tooFewClean r v (voteMark r v)) ∷ z ∷ [])
+    go true q = rw (← (n .voted), n .short q, n .at q)
+    go false q = rw (← (n .voted), q)

@@ -6,56 +6,84 @@ ghost use Prim.Native.Nat.{ℕ, _<_, _≤_};
 ghost use lib.ListN.{length, replicate};
 ghost use lib.Dec.{eqb};
 ghost use Rattle.base.specs.Below.{upTo};
+ghost use Rattle.quorum.specs.Vote.{flagsOf, marksOf};
+ghost use Rattle.cluster.specs.declared.Records.{Records};
 ghost use Rattle.cluster.specs.declared.Call.the-variants as call;
-ghost use Rattle.cluster.specs.State.{serverAt, entryAt};
-ghost use Rattle.cluster.specs.Refusals.{answered, sessionDiffers, row, firstOf};
-ghost use Rattle.cluster.specs.Effects.{entryAfter, openEffect};
-ghost use Rattle.cluster.specs.Step.{unless, step};
+ghost use Rattle.cluster.specs.State.{serverAt, entryAt, tableSize, withTable};
+ghost use Rattle.cluster.specs.Refusals.{isCut, row, seen, firstOf, cleanAt, sessionDiffers};
+ghost use Rattle.cluster.specs.Effects.{arrives, entryAfter, openedRegister, openedServer, openEffect};
+ghost use Rattle.cluster.specs.Step.{step};
+ghost use Rattle.checks.specs.Verdicts.{verdictOf};
 ghost use Rattle.checks.specs.Results.{stateOf, inputOf, resultOf};
-ghost use Rattle.register_calls.specs.Opening.{cleanBy, openedBy, registerBy, Ready, openRows, openBy};
-use crate::take::is_cut;
-use crate::take::with_register;
+ghost use Rattle.register_calls.specs.Settled.{settled, tablesAfter, Counted};
+use crate::message::Registered;
+use crate::message::does_arrive;
+use crate::message::is_answered;
+use crate::message::is_cut;
+use crate::message::settle;
 use checks::Check;
-use checks::Phases;
+use checks::also;
+use checks::both;
+use cluster::Answer;
+use cluster::Closing;
 use cluster::Entry;
 use cluster::Outcome;
 use cluster::Phase;
+use cluster::Phases;
 use cluster::Records;
 use cluster::Refusal;
 use cluster::Register;
 use cluster::Server;
 use cluster::Shape;
+use cluster::TABLE;
 use fate::Fate;
-use hearing::vote_among;
 use quorum::Vote;
-use storage::operation::Closing;
 
-// Whether a replica is clean: known, not dropped, and exactly at the mark. The loops below read it off the arrays that they need, since
-// a server's record that is passed by value is copied.
-fn is_clean(known: bool, dropped: bool, mark: u64, d: u64) -> bool
-    ensures { λ b. ⌜ b ≡ ((known && not dropped) && eqb mark d) ⌝ }
-{
-    if !known {
-        return false;
-    }
-    if dropped {
-        return false;
-    }
-    mark == d
+// The vote of an opening server's replicas: whether the mark is decided, and if so the mark, the clean replicas, and whether these are
+// too few.
+struct Ballot {
+    decided: bool,
+    mark: u64,
+    clean: [bool; 7],
+    few: bool,
 }
 
-fn clean_flags(v: Server, d: u64, r: usize) -> [bool; 7]
+// The clean replicas among those that may be used: exactly at the mark d.
+fn clean_flags(active: [bool; 7], marks: [u64; 7], d: u64, r: usize) -> [bool; 7]
     requires { ⌜ r ≤ 7 ⌝ }
-    ensures { λ f. ⌜ f ≡ upTo (cleanBy v d) (replicate 7 false) r ⌝ }
+    ensures { λ f. ⌜ f ≡ upTo (λ i. flagsOf active i && eqb (marksOf marks i) d) (replicate 7 false) r ⌝ }
+{
+    let mut out = [false; 7];
+    for i in 0..r {
+        out[i] = both(active[i], marks[i] == d);
+    }
+    out
+}
+
+fn count_ballot(v: Server, r: usize) -> Ballot
+    requires { ⌜ r ≤ 7 ⌝ }
+    ensures { λ b. ⌜ Counted v r b ⌝ }
 {
     let known = v.known;
     let dropped = v.dropped;
     let marks = v.marks;
-    let mut out = [false; 7];
-    for i in 0..r {
-        out[i] = is_clean(known[i], dropped[i], marks[i], d);
+    let active = checks::active_flags(known, dropped);
+    let Vote::Decided(d) = quorum::vote_of(active, marks, r) else {
+        return Ballot {
+            decided: false,
+            mark: 0,
+            clean: [false; 7],
+            few: true,
+        };
+    };
+    let clean = clean_flags(active, marks, d, r);
+    let few = quorum::count_flags(clean, r) < quorum::quorum_of(r);
+    Ballot {
+        decided: true,
+        mark: d,
+        clean: clean,
+        few: few,
     }
-    out
 }
 
 // The recorded mark of a replica after open: the members' is the mark, any other 0.
@@ -65,16 +93,13 @@ fn mark_after(clean: bool, d: u64) -> u64
     if clean { d } else { 0 }
 }
 
-fn marks_after(v: Server, d: u64, r: usize) -> [u64; 7]
+fn marks_after(clean: [bool; 7], d: u64, r: usize) -> [u64; 7]
     requires { ⌜ r ≤ 7 ⌝ }
-    ensures { λ m. ⌜ m ≡ upTo (λ i. cond (cleanBy v d i) d 0) (replicate 7 0) r ⌝ }
+    ensures { λ m. ⌜ m ≡ upTo (λ i. cond (flagsOf clean i) d 0) (replicate 7 0) r ⌝ }
 {
-    let known = v.known;
-    let dropped = v.dropped;
-    let marks = v.marks;
     let mut out = [0; 7];
     for i in 0..r {
-        out[i] = mark_after(is_clean(known[i], dropped[i], marks[i], d), d);
+        out[i] = mark_after(clean[i], d);
     }
     out
 }
@@ -99,29 +124,39 @@ fn entry_after(e: Entry, clean: bool, session: u64, d: u64) -> Entry
     }
 }
 
-fn entries_after(entries: [Entry; 7], v: Server, d: u64, r: usize) -> [Entry; 7]
+fn entries_after(
+    entries: [Entry; 7],
+    clean: [bool; 7],
+    session: u64,
+    d: u64,
+    r: usize,
+) -> [Entry; 7]
     requires { ⌜ r ≤ 7 ⌝ }
-    ensures { λ es. ⌜ es ≡ upTo (λ i. entryAfter (entryAt entries i) (cleanBy v d i) (v .session) d) entries r ⌝ }
+    ensures { λ es. ⌜ es ≡ upTo (λ i. entryAfter (entryAt entries i) (flagsOf clean i) session d) entries r ⌝ }
 {
-    let known = v.known;
-    let dropped = v.dropped;
-    let marks = v.marks;
-    let session = v.session;
     let mut out = entries;
     for i in 0..r {
         let e = entries[i];
-        let clean = is_clean(known[i], dropped[i], marks[i], d);
-        out[i] = entry_after(e, clean, session, d);
+        out[i] = entry_after(e, clean[i], session, d);
     }
     out
 }
 
-fn opened_register(g: Register, v: Server, d: u64, r: usize) -> Register
+// The register after the message, if it arrives and the session is the register's.
+fn register_after(g: Register, v: Server, b: Ballot, r: usize, fate: Fate) -> Register
     requires { ⌜ r ≤ 7 ⌝ }
-    ensures { λ n. ⌜ n ≡ registerBy r g v d ⌝ }
+    requires { ⌜ b .clean ≡ upTo (cleanAt v (b .mark)) (replicate 7 false) r ⌝ }
+    ensures { λ n. ⌜ n ≡ cond (arrives fate && not (sessionDiffers g v)) (openedRegister r g v (b .mark)) g ⌝ }
 {
+    if !does_arrive(fate) {
+        return g;
+    }
+    if g.session != v.session {
+        return g;
+    }
     let entries = g.entries;
-    let after = entries_after(entries, v, d, r);
+    let clean = b.clean;
+    let after = entries_after(entries, clean, v.session, b.mark, r);
     Register {
         session: g.session,
         generation: g.generation,
@@ -129,20 +164,22 @@ fn opened_register(g: Register, v: Server, d: u64, r: usize) -> Register
     }
 }
 
-fn opened_server(v: Server, d: u64, r: usize) -> Server
+fn opened_server(v: Server, b: Ballot, r: usize) -> Server
     requires { ⌜ r ≤ 7 ⌝ }
-    ensures { λ s. ⌜ s ≡ openedBy r v d ⌝ }
+    requires { ⌜ b .clean ≡ upTo (cleanAt v (b .mark)) (replicate 7 false) r ⌝ }
+    ensures { λ s. ⌜ s ≡ openedServer r v (b .mark) ⌝ }
 {
     let entries = v.entries;
     let held = v.held;
-    let known = clean_flags(v, d, r);
-    let marks = marks_after(v, d, r);
+    let clean = b.clean;
+    let d = b.mark;
+    let marks = marks_after(clean, d, r);
     Server {
         phase: Phase::Open,
         session: v.session,
         generation: v.generation,
         entries: entries,
-        known: known,
+        known: clean,
         dropped: [false; 7],
         marks: marks,
         start: d,
@@ -152,58 +189,47 @@ fn opened_server(v: Server, d: u64, r: usize) -> Server
     }
 }
 
-// The message, and what the server makes of its answer or of silence. d is the mark that the vote decided.
-fn open_step(
-    records: Records,
-    tables: &mut [u64],
-    i: usize,
-    r: usize,
-    d: u64,
-    fate: Fate,
-) -> Outcome
-    requires { ⌜ Ready i r (length (now tables)) ⌝ }
-    ensures { λ o. ⌜ ((media : List ℕ) → resultOf o media (now (tables .exit)) ≡ unless (firstOf (row 22 (answered fate && sessionDiffers (records .register) (serverAt records i)) ∷ [])) (stateOf records media (now (tables .entry))) (openBy r d (stateOf records media (now (tables .entry))) i fate)) ⌝ }
+// What the message leaves of the register, and what the server makes of its answer or of silence.
+fn opened(g: Register, v: Server, b: Ballot, r: usize, fate: Fate) -> Registered
+    requires { ⌜ r ≤ 7 ⌝ }
+    requires { ⌜ b .clean ≡ upTo (cleanAt v (b .mark)) (replicate 7 false) r ⌝ }
+    ensures { λ c. ⌜ ((x : Records) (s : ℕ) (media tables : List ℕ) → x .register ≡ g → serverAt x s ≡ v → resultOf (settled x s c) media (tablesAfter s (b .mark) fate tables) ≡ openEffect r (b .mark) (stateOf x media tables) s fate) ⌝ }
 {
-    let g = records.register;
-    let v = records.servers[i];
-    let differs = g.session != v.session;
-    match fate {
-        Fate::Answered => {
-            if differs {
-                return checks::declined(records, Refusal::OtherSession);
-            }
-            let a = i * 1024;
-            let e = a + 1024;
-            locks::fill_table(&mut tables[a..e], d);
-            let given = with_register(records, opened_register(g, v, d, r));
-            checks::value(cluster::put_server(given, i, opened_server(v, d, r)), d)
-        }
-        Fate::Lost => checks::silent(cluster::put_server(records, i, cluster::idle())),
-        Fate::AnswerLost => {
-            if differs {
-                return checks::silent(cluster::put_server(records, i, cluster::idle()));
-            }
-            let given = with_register(records, opened_register(g, v, d, r));
-            checks::silent(cluster::put_server(given, i, cluster::idle()))
-        }
-        Fate::Cut(_, _) => checks::silent(cluster::put_server(records, i, cluster::idle())),
+    let next = register_after(g, v, b, r, fate);
+    if is_answered(fate) {
+        return Registered {
+            register: next,
+            server: opened_server(v, b, r),
+            answer: Answer::Value(b.mark),
+        };
+    }
+    Registered {
+        register: next,
+        server: cluster::idle(),
+        answer: Answer::Silent,
     }
 }
 
-// 8 and 9, then the message.
-fn open_voted(records: Records, tables: &mut [u64], i: usize, r: usize, fate: Fate) -> Outcome
-    requires { ⌜ Ready i r (length (now tables)) ⌝ }
-    ensures { λ o. ⌜ ((media : List ℕ) → resultOf o media (now (tables .exit)) ≡ unless (firstOf (openRows r records i fate)) (stateOf records media (now (tables .entry))) (openEffect r (stateOf records media (now (tables .entry))) i fate)) ⌝ }
+// A server whose open is answered has a lock table with the mark in every place.
+fn fill(tables: &mut [u64], i: usize, d: u64, fate: Fate)
+    requires { ⌜ (i < 4) × (length (now tables) ≡ 4096) ⌝ }
+    ensures { λ _. ⌜ now (tables .exit) ≡ tablesAfter i d fate (now (tables .entry)) ⌝ }
 {
-    let v = records.servers[i];
-    let Vote::Decided(d) = vote_among(v, r) else {
-        return checks::declined(records, Refusal::Undecided);
-    };
-    let clean = clean_flags(v, d, r);
-    if quorum::count_flags(clean, r) < quorum::quorum_of(r) {
-        return checks::declined(records, Refusal::TooFewClean);
+    if is_answered(fate) {
+        let a = i * TABLE;
+        let e = a + TABLE;
+        locks::fill_table(&mut tables[a..e], d);
     }
-    open_step(records, tables, i, r, d, fate)
+}
+
+// 6, 8, 9 and 22. `differs`: the register's session isn't the server's.
+fn judge(b: Ballot, fate: Fate, differs: bool) -> Check
+    ensures { λ k. ⌜ verdictOf k ≡ firstOf (row 6 (isCut fate) ∷ row 8 (not (b .decided)) ∷ row 9 (b .few) ∷ seen fate 22 differs ∷ []) ⌝ }
+{
+    let k = also(Check::Pass, is_cut(fate), Refusal::UnfitFate);
+    let k = also(k, !b.decided, Refusal::Undecided);
+    let k = also(k, b.few, Refusal::TooFewClean);
+    also(k, both(is_answered(fate), differs), Refusal::OtherSession)
 }
 
 pub fn open(
@@ -221,24 +247,21 @@ pub fn open(
         opening: true,
         open: false,
     };
-    let k = checks::admit_call(
-        shape,
-        records,
-        media.len(),
-        tables.len(),
-        server,
-        false,
-        phases,
-    );
-    let k = checks::also(k, is_cut(fate), Refusal::UnfitFate);
+    let k = checks::admit_phase(shape, records, media.len(), tables.len(), server, phases);
+    if let Check::Refuse(why) = k {
+        return checks::declined(records, why);
+    }
+    let i = server as usize;
+    let r = shape.replicas as usize;
+    let g = records.register;
+    let v = records.servers[i];
+    let b = count_ballot(v, r);
+    let k = judge(b, fate, g.session != v.session);
     match k {
         Check::Refuse(why) => checks::declined(records, why),
-        Check::Pass => open_voted(
-            records,
-            tables,
-            server as usize,
-            shape.replicas as usize,
-            fate,
-        ),
+        Check::Pass => {
+            fill(tables, i, b.mark, fate);
+            settle(records, i, opened(g, v, b, r, fate))
+        }
     }
 }

@@ -1,45 +1,33 @@
 // take: an idle server gets the next session, the generation and the entries.
 ghost use mathlib.Core.Path.{_≡_};
-ghost use mathlib.Core.Bool.{_&&_, false};
-ghost use mathlib.Core.List.{List, [], _∷_};
-ghost use Prim.Native.Nat.{ℕ, _<_};
+ghost use mathlib.Core.Bool.{_&&_, not, cond};
+ghost use mathlib.Core.List.{List, []};
+ghost use Prim.Native.Nat.{ℕ};
+ghost use Rattle.cluster.specs.declared.Records.{Records};
 ghost use Rattle.cluster.specs.declared.Call.the-variants as call;
-ghost use Rattle.cluster.specs.State.{putServer, putRegister};
-ghost use Rattle.cluster.specs.Refusals.{isCut, answered, sessionAtTop, row, firstOf};
-ghost use Rattle.cluster.specs.Effects.{raisedSession, openingServer, takeEffect};
-ghost use Rattle.cluster.specs.Step.{unless, step};
+ghost use Rattle.cluster.specs.Refusals.{sessionAtTop};
+ghost use Rattle.cluster.specs.Effects.{arrives, raisedSession, openingServer, takeEffect};
+ghost use Rattle.cluster.specs.Step.{step};
 ghost use Rattle.checks.specs.Results.{stateOf, inputOf, resultOf};
+ghost use Rattle.register_calls.specs.Settled.{settled};
+use crate::message::Registered;
+use crate::message::does_arrive;
+use crate::message::is_answered;
+use crate::message::is_cut;
+use crate::message::settle;
 use checks::Check;
-use checks::Phases;
+use checks::also;
+use checks::both;
+use cluster::Answer;
 use cluster::Outcome;
 use cluster::Phase;
+use cluster::Phases;
 use cluster::Records;
 use cluster::Refusal;
 use cluster::Register;
 use cluster::Server;
 use cluster::Shape;
 use fate::Fate;
-
-// A message to the register cannot be cut.
-pub fn is_cut(f: Fate) -> bool
-    ensures { λ b. ⌜ b ≡ isCut f ⌝ }
-{
-    match f {
-        Fate::Answered => false,
-        Fate::Lost => false,
-        Fate::AnswerLost => false,
-        Fate::Cut(_, _) => true,
-    }
-}
-
-// The records with another register.
-pub fn with_register(records: Records, g: Register) -> Records
-    ensures { λ r. ⌜ r ≡ putRegister records g ⌝ }
-{
-    let mut next = records;
-    next.register = g;
-    next
-}
 
 // A session's number has 64 bits.
 fn at_top(session: u64) -> bool
@@ -48,11 +36,16 @@ fn at_top(session: u64) -> bool
     session == 18446744073709551615
 }
 
-// The register with the session raised by 1.
-fn raise(g: Register) -> Register
-    requires { ⌜ sessionAtTop (g .session) ≡ false ⌝ }
-    ensures { λ r. ⌜ r ≡ raisedSession g ⌝ }
+// The register with the session raised by 1, if the message arrives and there is a higher number.
+fn raised(g: Register, fate: Fate) -> Register
+    ensures { λ r. ⌜ r ≡ cond (arrives fate && not (sessionAtTop (g .session))) (raisedSession g) g ⌝ }
 {
+    if !does_arrive(fate) {
+        return g;
+    }
+    if at_top(g.session) {
+        return g;
+    }
     let mut next = g;
     next.session = g.session + 1;
     next
@@ -78,31 +71,22 @@ fn opening(g: Register) -> Server
     }
 }
 
-// The message, and what the server makes of its answer or of silence.
-fn take_step(records: Records, i: usize, fate: Fate) -> Outcome
-    requires { ⌜ i < 4 ⌝ }
-    ensures { λ o. ⌜ ((media tables : List ℕ) → resultOf o media tables ≡ unless (firstOf (row 21 (answered fate && sessionAtTop (records .register .session)) ∷ [])) (stateOf records media tables) (takeEffect (stateOf records media tables) i fate)) ⌝ }
+// What the message leaves of the register, and what the server makes of its answer or of silence.
+fn taken(g: Register, fate: Fate) -> Registered
+    ensures { λ c. ⌜ ((r : Records) (s : ℕ) (media tables : List ℕ) → r .register ≡ g → resultOf (settled r s c) media tables ≡ takeEffect (stateOf r media tables) s fate) ⌝ }
 {
-    let g = records.register;
-    let top = at_top(g.session);
-    match fate {
-        Fate::Answered => {
-            if top {
-                return checks::declined(records, Refusal::AtTop);
-            }
-            let next = raise(g);
-            let given = with_register(records, next);
-            checks::value(cluster::put_server(given, i, opening(next)), next.session)
-        }
-        Fate::Lost => checks::silent(cluster::put_server(records, i, cluster::idle())),
-        Fate::AnswerLost => {
-            if top {
-                return checks::silent(cluster::put_server(records, i, cluster::idle()));
-            }
-            let given = with_register(records, raise(g));
-            checks::silent(cluster::put_server(given, i, cluster::idle()))
-        }
-        Fate::Cut(_, _) => checks::silent(cluster::put_server(records, i, cluster::idle())),
+    let next = raised(g, fate);
+    if is_answered(fate) {
+        return Registered {
+            register: next,
+            server: opening(next),
+            answer: Answer::Value(next.session),
+        };
+    }
+    Registered {
+        register: next,
+        server: cluster::idle(),
+        answer: Answer::Silent,
     }
 }
 
@@ -121,18 +105,13 @@ pub fn take(
         opening: false,
         open: false,
     };
-    let k = checks::admit_call(
-        shape,
-        records,
-        media.len(),
-        tables.len(),
-        server,
-        false,
-        phases,
-    );
-    let k = checks::also(k, is_cut(fate), Refusal::UnfitFate);
+    let g = records.register;
+    let late = both(is_answered(fate), at_top(g.session));
+    let k = checks::admit_phase(shape, records, media.len(), tables.len(), server, phases);
+    let k = also(k, is_cut(fate), Refusal::UnfitFate);
+    let k = also(k, late, Refusal::AtTop);
     match k {
         Check::Refuse(why) => checks::declined(records, why),
-        Check::Pass => take_step(records, server as usize, fate),
+        Check::Pass => settle(records, server as usize, taken(g, fate)),
     }
 }

@@ -18,10 +18,10 @@ vote-of-requires c κs = search needs
 
 returns : tie.Need-returns
 returns c =
-    let v = c .before .before .before .args .v in
-    let p = c .before .before .before .pre in
+    let v = c .before .before .before .before .before .args .v in
+    let p = c .before .before .before .before .before .pre in
     c .vote-of .ensures
-    ∙ vote-same (c .before .before .before .args .r) (flagsOf (c .before .active-flags .result)) (votesAt v) (markAt v)
+    ∙ vote-same (c .before .before .before .before .before .args .r) (flagsOf (c .before .active-flags .result)) (votesAt v) (markAt v)
     (λ i l. rw (c .before .active-flags .ensures) (upTo-at (votesAt v) (replicate 7 false) 7 i false (omega arith) (omega arith)))
 
 pub vote-among-spec : {M : Type 1} → statement M

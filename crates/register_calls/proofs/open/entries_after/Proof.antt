@@ -1,12 +1,10 @@
 -- The loop's invariant: what is made so far.
 -- Assumes nothing.
 use mathlib.Core.Path.{_≡_, ap, _∙_}
-use mathlib.Core.Bool.{_&&_, not, false}
 use Prim.Native.Nat.{_-_, _≤_}
-use lib.ListN.{getD}
-use lib.Dec.{eqb}
 use Rattle.base.specs.Below.{upTo}
 use Rattle.base.proofs.Below.{upTo-step}
+use Rattle.quorum.specs.Vote.{flagsOf}
 use Rattle.cluster.specs.State.{entryAt}
 use Rattle.cluster.specs.Effects.{entryAfter}
 use native.Mathlib.Omega.{arith}
@@ -15,10 +13,10 @@ use Rattle.register_calls.proofs.open.entries_after.Statement.{statemen
 use Rattle.register_calls.proofs.open.entries_after.Tie as tie
 
 abbrev Inv-loop : tie.InvT-loop
-Inv-loop d r entries known dropped marks session out₀ i₀ out i = (i ≤ r) × (out ≡ upTo (λ j. entryAfter (entryAt entries j) ((getD known j false && not (getD dropped j false)) && eqb (getD marks j 0) d) session d) entries i)
+Inv-loop session d r entries clean out₀ i₀ out i = (i ≤ r) × (out ≡ upTo (λ j. entryAfter (entryAt entries j) (flagsOf clean j) session d) entries i)
 
 abbrev μ-loop : tie.MeasureT-loop
-μ-loop d r entries known dropped marks session out₀ i₀ out i = r - i
+μ-loop session d r entries clean out₀ i₀ out i = r - i
 
 loop-holds : tie.Need-loop-holds Inv-loop μ-loop
 unfolding upTo
@@ -30,20 +28,8 @@ mul-e c = search needs
 array-copy-out-e : tie.Need-array-copy-out-e Inv-loop μ-loop
 array-copy-out-e c = search needs
 
-array-read-is-clean : tie.Need-array-read-is-clean Inv-loop μ-loop
-array-read-is-clean c = search needs
-
-array-read-is-clean-2 : tie.Need-array-read-is-clean-2 Inv-loop μ-loop
-array-read-is-clean-2 c = search needs
-
-mul-is-clean : tie.Need-mul-is-clean Inv-loop μ-loop
-mul-is-clean c = search needs
-
-array-read-is-clean-3 : tie.Need-array-read-is-clean-3 Inv-loop μ-loop
-array-read-is-clean-3 c = search needs
-
-is-clean-requires : tie.Need-is-clean-requires Inv-loop μ-loop
-is-clean-requires c κs = search needs
+array-read-entry-after : tie.Need-array-read-entry-after Inv-loop μ-loop
+array-read-entry-after c = search needs
 
 entry-after-requires : tie.Need-entry-after-requires Inv-loop μ-loop
 entry-after-requires c κs = search needs
@@ -61,7 +47,7 @@ loop-less : tie.Need-loop-less Inv-loop μ-loop
 loop-less c = search needs
 
 loop-again : tie.Need-loop-again Inv-loop μ-loop
-loop-again c = (search needs, upTo-step _ _ _ _ _ (c .before .before .before .before .loop .inv .1) (rw (← (c .before .is-clean .ensures)) (c .entry-after .ensures)))
+loop-again c = (search needs, upTo-step _ _ _ _ _ (c .before .before .before .loop .inv .1) (c .entry-after .ensures))
 
 returns : tie.Need-returns Inv-loop μ-loop
 returns c = c .before .loop .inv .1 ∙ ap (upTo _ _) (omega arith)
@@ -75,11 +61,7 @@ entries-after-spec =
     loop-holds
     mul-e
     array-copy-out-e
-    array-read-is-clean
-    array-read-is-clean-2
-    mul-is-clean
-    array-read-is-clean-3
-    is-clean-requires
+    array-read-entry-after
     entry-after-requires
     mul-out
     array-set-from-out

@@ -1,20 +1,18 @@
-use mathlib.Core.List.{[]}
+use mathlib.Core.Path.{refl, _∙_}
+use mathlib.Core.List.{[], _++_}
+use borrow.Author.Tests.{not-false}
 use Rattle.cluster.specs.declared.Call.the-variants as call
+use Rattle.cluster.specs.Refusals.{checksOf}
+use Rattle.cluster.specs.Step.{step}
 use Rattle.checks.specs.Results.{stateOf, inputOf}
-use Rattle.checks.proofs.Outer.{refused, goes-on}
-use Rattle.register_calls.proofs.Framed.{onlyOpening, registerRows, checked, ready, open-own}
+use Rattle.checks.proofs.Frame.{refused, goes-on, nothing-more, holds-not, admitted}
+use Rattle.register_calls.proofs.Opened.{ballot-rows}
 use borrow.Author.Needs.{needs}
 use Rattle.register_calls.proofs.open.open.Statement.{statement}
 use Rattle.register_calls.proofs.open.open.Tie as tie
 
-admit-call-requires : tie.Need-admit-call-requires
-admit-call-requires c κs = search needs
-
-is-cut-requires : tie.Need-is-cut-requires
-is-cut-requires c κs = search needs
-
-also-requires : tie.Need-also-requires
-also-requires c κs = search needs
+admit-phase-requires : tie.Need-admit-phase-requires
+admit-phase-requires c κs = search needs
 
 enum-known-k : tie.Need-enum-known-k
 enum-known-k c = search needs
@@ -22,43 +20,111 @@ enum-known-k c = search needs
 declined-requires : tie.Need-declined-requires
 declined-requires c κs = search needs
 
+returns : tie.Need-returns
+unfolding step
+returns c =
+    let a = c .before .before .before .before .before .before .before .args in
+    let x = stateOf (a .t2) (a .media .now) (a .tables .now) in
+    let k = checksOf (a .shape) x (inputOf (call.Open (a .server) (a .fate)) []) (call.Open (a .server) (a .fate)) in
+    refused (a .t2) (a .media .now) (a .tables .now) _ (k .admission) (k .sending ++ k .receiving) (c .before .before .before .before .admit-phase .ensures (a .media .now) (a .tables .now) refl refl) (c .before .before .k .given .1) (c .declined .ensures)
+
 enum-told : tie.Need-enum-told
 enum-told c = search needs
 
-open-voted-requires : tie.Need-open-voted-requires
-open-voted-requires c κs =
-    let a = c .before .before .before .before .before .before .before .before .args in
-    let v = checked (a .shape) (a .records) (a .media .now) (a .tables .now) (a .server) onlyOpening (a .fate) (c .before .before .before .before .before .admit-call .result) (c .before .before .before .also .result) (c .before .before .before .before .is-cut .result) (c .before .before .before .before .before .admit-call .ensures) (c .before .before .before .before .is-cut .ensures) (c .before .before .before .also .ensures) in
-    ready (a .shape) (a .records) (a .media .now) (a .tables .now) (a .server) onlyOpening (a .fate) (c .before .before .before .also .result) v (c .before .enum-told .given .1)
+mul-v : tie.Need-mul-v
+mul-v c =
+    let a = c .before .before .before .before .before .before .args in
+    let k = admitted (a .shape) (a .t2) (a .media .now) (a .tables .now) (a .server) _ (c .before .before .before .admit-phase .ensures (a .media .now) (a .tables .now) refl refl) (c .before .enum-told .given .1) in
+    let l = k .server in search needs
 
-returns : tie.Need-returns
-returns c =
-    let a = c .before .before .before .before .before .before .before .before .before .args in
-    let v = checked (a .shape) (a .records) (a .media .now) (a .tables .now) (a .server) onlyOpening (a .fate) (c .before .before .before .before .before .before .admit-call .result) (c .before .before .before .before .also .result) (c .before .before .before .before .before .is-cut .result) (c .before .before .before .before .before .before .admit-call .ensures) (c .before .before .before .before .before .is-cut .ensures) (c .before .before .before .before .also .ensures) in
-    refused (a .shape) (a .records) (a .media .now) (a .tables .now) (inputOf (call.Open (a .server) (a .fate)) []) (registerRows (a .shape) (stateOf (a .records) (a .media .now) (a .tables .now)) (a .server) onlyOpening (a .fate)) _ (c .before .before .before .before .also .result)
-    (open-own (a .shape) (stateOf (a .records) (a .media .now) (a .tables .now)) (a .server) (a .fate)) v _ (c .declined .result) (c .before .before .k .given .1) (c .declined .ensures)
+element-copy-out-v : tie.Need-element-copy-out-v
+element-copy-out-v c =
+    let a = c .before .before .before .before .before .before .args in
+    let k = admitted (a .shape) (a .t2) (a .media .now) (a .tables .now) (a .server) _ (c .before .before .before .admit-phase .ensures (a .media .now) (a .tables .now) refl refl) (c .before .enum-told .given .1) in
+    let l = k .server in search needs
+
+count-ballot-requires : tie.Need-count-ballot-requires
+count-ballot-requires c κs =
+    let a = c .before .before .before .before .before .before .before .args in
+    let k = admitted (a .shape) (a .t2) (a .media .now) (a .tables .now) (a .server) _ (c .before .before .before .before .admit-phase .ensures (a .media .now) (a .tables .now) refl refl) (c .before .before .enum-told .given .1) in
+    k .replicas
+
+judge-requires : tie.Need-judge-requires
+judge-requires c κs = search needs
+
+enum-known-k-2 : tie.Need-enum-known-k-2
+enum-known-k-2 c = search needs
+
+declined-requires-2 : tie.Need-declined-requires-2
+declined-requires-2 c κs = search needs
+
+enum-told-2 : tie.Need-enum-told-2
+enum-told-2 c = search needs
+
+fill-requires : tie.Need-fill-requires
+fill-requires c κs =
+    let a = c .before .before .before .before .before .before .before .before .before .before .before .before .before .before .args in
+    let k = admitted (a .shape) (a .t2) (a .media .now) (a .tables .now) (a .server) _ (c .before .before .before .before .before .before .before .before .before .before .before .admit-phase .ensures (a .media .now) (a .tables .now) refl refl) (c .before .before .before .before .before .before .before .before .before .enum-told .given .1) in
+    (k .server, k .tables)
+
+opened-requires : tie.Need-opened-requires
+opened-requires c κs =
+    let a = c .before .before .before .before .before .before .before .before .before .before .before .before .before .before .before .before .before .args in
+    let k = admitted (a .shape) (a .t2) (a .media .now) (a .tables .now) (a .server) _ (c .before .before .before .before .before .before .before .before .before .before .before .before .before .before .admit-phase .ensures (a .media .now) (a .tables .now) refl refl) (c .before .before .before .before .before .before .before .before .before .before .before .before .enum-told .given .1) in
+    (k .replicas, c .before .before .before .before .before .before .before .before .before .count-ballot .ensures .flags (not-false _ (holds-not _ (c .before .before .before .before .before .before .judge .ensures) (c .before .before .before .before .enum-told2 .given .1) 8)))
+
+settle-requires : tie.Need-settle-requires
+settle-requires c κs =
+    let a = c .before .before .before .before .before .before .before .before .before .before .before .before .before .before .before .before .before .before .args in
+    let k = admitted (a .shape) (a .t2) (a .media .now) (a .tables .now) (a .server) _ (c .before .before .before .before .before .before .before .before .before .before .before .before .before .before .before .admit-phase .ensures (a .media .now) (a .tables .now) refl refl) (c .before .before .before .before .before .before .before .before .before .before .before .before .before .enum-told .given .1) in
+    k .server
+
+returns-2 : tie.Need-returns-2
+unfolding step
+returns-2 c =
+    let a = c .before .before .before .before .before .before .before .before .before .before .before .before .before .before .before .args in
+    let x = stateOf (a .t2) (a .media .now) (a .tables .now) in
+    let k = checksOf (a .shape) x (inputOf (call.Open (a .server) (a .fate)) []) (call.Open (a .server) (a .fate)) in
+    let n = c .before .before .before .before .before .before .before .count-ballot .ensures in
+    let v = c .before .before .before .before .judge .ensures ∙ ballot-rows _ _ _ _ _ n in
+    goes-on (a .t2) (a .media .now) (a .tables .now) _ (k .admission) (k .sending ++ k .receiving) (c .before .before .before .before .before .before .before .before .before .before .before .before .admit-phase .ensures (a .media .now) (a .tables .now) refl refl) (c .before .before .before .before .before .before .before .before .before .before .enum-told .given .1)
+    (refused (a .t2) (a .media .now) (a .tables .now) _ (k .sending ++ k .receiving) [] v (c .before .before .k2 .given .1) (c .declined2 .ensures))
 
 same-length : tie.Need-same-length
 same-length c = search needs
 
-returns-2 : tie.Need-returns-2
-returns-2 c =
-    let a = c .before .before .before .before .before .before .before .before .before .before .before .args in
-    let v = checked (a .shape) (a .records) (a .media .now) (a .tables .now) (a .server) onlyOpening (a .fate) (c .before .before .before .before .before .before .before .before .admit-call .result) (c .before .before .before .before .before .before .also .result) (c .before .before .before .before .before .before .before .is-cut .result) (c .before .before .before .before .before .before .before .before .admit-call .ensures) (c .before .before .before .before .before .before .before .is-cut .ensures) (c .before .before .before .before .before .before .also .ensures) in
-    goes-on (a .shape) (a .records) (a .media .now) (a .tables .now) (inputOf (call.Open (a .server) (a .fate)) []) (registerRows (a .shape) (stateOf (a .records) (a .media .now) (a .tables .now)) (a .server) onlyOpening (a .fate)) _ (c .before .before .before .before .before .before .also .result)
-    (open-own (a .shape) (stateOf (a .records) (a .media .now) (a .tables .now)) (a .server) (a .fate)) v _ (c .before .before .before .before .enum-told .given .1) (c .before .before .open-voted .ensures (a .media .now))
+returns-3 : tie.Need-returns-3
+unfolding step
+returns-3 c =
+    let a = c .before .before .before .before .before .before .before .before .before .before .before .before .before .before .before .before .before .before .before .args in
+    let x = stateOf (a .t2) (a .media .now) (a .tables .now) in
+    let k = checksOf (a .shape) x (inputOf (call.Open (a .server) (a .fate)) []) (call.Open (a .server) (a .fate)) in
+    let n = c .before .before .before .before .before .before .before .before .before .before .before .count-ballot .ensures in
+    let v = c .before .before .before .before .before .before .before .before .judge .ensures ∙ ballot-rows _ _ _ _ _ n in
+    let d = n .at (not-false _ (holds-not _ (c .before .before .before .before .before .before .before .before .judge .ensures) (c .before .before .before .before .before .before .enum-told2 .given .1) 8)) in
+    goes-on (a .t2) (a .media .now) (a .tables .now) _ (k .admission) (k .sending ++ k .receiving) (c .before .before .before .before .before .before .before .before .before .before .before .before .before .before .before .before .admit-phase .ensures (a .media .now) (a .tables .now) refl refl) (c .before .before .before .before .before .before .before .before .before .before .before .before .before .before .enum-told .given .1)
+    (goes-on (a .t2) (a .media .now) (a .tables .now) _ (k .sending ++ k .receiving) [] v (c .before .before .before .before .before .before .enum-told2 .given .1)
+    (nothing-more x (rw (c .settle .ensures, c .before .before .before .before .fill .ensures, ← d) (c .before .opened .ensures (a .t2) (a .server) (a .media .now) (a .tables .now) refl refl))))
 
 pub open-spec : {M : Type 1} → statement M
 open-spec =
     tie.close
     (tie.spec
-    admit-call-requires
-    is-cut-requires
-    also-requires
+    admit-phase-requires
     enum-known-k
     declined-requires
-    enum-told
-    open-voted-requires
     returns
+    enum-told
+    mul-v
+    element-copy-out-v
+    count-ballot-requires
+    judge-requires
+    enum-known-k-2
+    declined-requires-2
+    enum-told-2
+    fill-requires
+    opened-requires
+    settle-requires
+    returns-2
     same-length
-    returns-2)
+    returns-3)

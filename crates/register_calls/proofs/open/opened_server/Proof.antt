@@ -1,17 +1,18 @@
-use Rattle.register_calls.specs.Opening.{openedBy}
+use mathlib.Core.Path.{_∙_}
+use Rattle.cluster.specs.Effects.{openedServer}
+use Rattle.register_calls.proofs.Opened.{marks-are}
 use borrow.Author.Needs.{needs}
 use Rattle.register_calls.proofs.open.opened_server.Statement.{statement}
 use Rattle.register_calls.proofs.open.opened_server.Tie as tie
-
-clean-flags-requires : tie.Need-clean-flags-requires
-clean-flags-requires c κs = search needs
 
 marks-after-requires : tie.Need-marks-after-requires
 marks-after-requires c κs = search needs
 
 returns : tie.Need-returns
-unfolding openedBy
-returns c = rw (c .marks-after .ensures, c .before .clean-flags .ensures)
+unfolding openedServer
+returns c =
+    let a = c .before .before .before .before .args in
+    rw (c .marks-after .ensures ∙ marks-are (a .v) (a .b .mark) (a .r) (a .b .clean) (c .before .before .before .before .pre .0) (c .before .before .before .before .pre .1), c .before .before .before .before .pre .1)
 
 pub opened-server-spec : {M : Type 1} → statement M
-opened-server-spec = tie.close (tie.spec clean-flags-requires marks-after-requires returns)
+opened-server-spec = tie.close (tie.spec marks-after-requires returns)

@@ -1,7 +1,6 @@
 use mathlib.Core.Path.{refl}
 use Prim.Native.Nat.{_^_}
 use Rattle.base.proofs.Tops.{top-is}
-use borrow.Author.Needs.{needs}
 use Rattle.register_calls.proofs.take.at_top.Statement.{statement}
 use Rattle.register_calls.proofs.take.at_top.Tie as tie
 

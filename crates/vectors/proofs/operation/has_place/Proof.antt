@@ -17,9 +17,6 @@ enum-told-2 c = search needs
 enum-told-3 : tie.Need-enum-told-3
 enum-told-3 c = search needs
 
-enum-told-4 : tie.Need-enum-told-4
-enum-told-4 c = search needs
-
 returns : tie.Need-returns
 returns c = λ e. rw (c .before .op .given .1) (ltb-true _ _ e)
 
@@ -32,9 +29,6 @@ returns-3 c = λ e. rw (c .enum-told2 .given .1) tt
 returns-4 : tie.Need-returns-4
 returns-4 c = λ e. rw (c .enum-told3 .given .1) tt
 
-returns-5 : tie.Need-returns-5
-returns-5 c = λ e. rw (c .enum-told4 .given .1) tt
-
 pub has-place-spec : {M : Type 1} → statement M
 has-place-spec =
     tie.close
@@ -43,9 +37,7 @@ has-place-spec =
     enum-told
     enum-told-2
     enum-told-3
-    enum-told-4
     returns
     returns-2
     returns-3
-    returns-4
-    returns-5)
+    returns-4)

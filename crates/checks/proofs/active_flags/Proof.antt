@@ -8,8 +8,8 @@ use Rattle.base.specs.Below.{upTo}
 use Rattle.base.proofs.Below.{upTo-step}
 use native.Mathlib.Omega.{arith}
 use borrow.Author.Needs.{needs}
-use Rattle.checks.proofs.vote.active_flags.Statement.{statement}
-use Rattle.checks.proofs.vote.active_flags.Tie as tie
+use Rattle.checks.proofs.active_flags.Statement.{statement}
+use Rattle.checks.proofs.active_flags.Tie as tie
 
 abbrev Inv-loop : tie.InvT-loop
 Inv-loop known dropped flags₀ i₀ flags i = (i ≤ 7) × (flags ≡ upTo (λ j. getD known j false && not (getD dropped j false)) (replicate 7 false) i)

@@ -1,0 +1,63 @@
+use mathlib.Core.Bool.{false≢true}
+use Rattle.register_calls.proofs.Opened.{not-decided, is-decided, clean-is, clean-count}
+use borrow.Author.Needs.{needs}
+use Rattle.register_calls.proofs.open.count_ballot.Statement.{statement}
+use Rattle.register_calls.proofs.open.count_ballot.Tie as tie
+
+active-flags-requires : tie.Need-active-flags-requires
+active-flags-requires c κs = search needs
+
+vote-of-requires : tie.Need-vote-of-requires
+vote-of-requires c κs = search needs
+
+enum-known-d : tie.Need-enum-known-d
+enum-known-d c = search needs
+
+enum-told : tie.Need-enum-told
+enum-told c = search needs
+
+returns : tie.Need-returns
+returns c =
+    let a = c .before .before .before .before .before .before .before .args in
+    record {
+      voted = not-decided (a .v) (a .r) _ (c .before .before .before .before .before .before .before .pre) (c .before .before .before .active-flags .ensures) (c .before .before .vote-of .ensures) (c .enum-told .given .1);
+      at = λ t. absurd (false≢true t);
+      flags = λ t. absurd (false≢true t);
+      short = λ t. absurd (false≢true t);
+    }
+
+clean-flags-requires : tie.Need-clean-flags-requires
+clean-flags-requires c κs = search needs
+
+count-flags-requires : tie.Need-count-flags-requires
+count-flags-requires c κs = search needs
+
+quorum-of-requires : tie.Need-quorum-of-requires
+quorum-of-requires c κs = search needs
+
+returns-2 : tie.Need-returns-2
+returns-2 c =
+    let a = c .before .before .before .before .before .before .before .before .before .before .before .args in
+    let flags = c .before .before .before .before .before .before .before .active-flags .ensures in
+    let w = is-decided (a .v) (a .r) _ (c .before .before .before .before .before .before .before .before .before .before .before .pre) flags _ (c .before .before .before .before .before .before .vote-of .ensures) (c .before .before .before .before .d .given .1) in
+    let clean = clean-is (a .v) (a .r) _ (c .before .before .before .before .before .before .before .before .before .before .before .pre) flags _ (c .before .before .clean-flags .ensures) in
+    record {
+      voted = w .0;
+      at = λ t. w .1;
+      flags = λ t. clean;
+      short = λ t. rw (c .before .count-flags .ensures, c .quorum-of .ensures, clean-count (a .v) _ (a .r) _ (c .before .before .before .before .before .before .before .before .before .before .before .pre) clean);
+    }
+
+pub count-ballot-spec : {M : Type 1} → statement M
+count-ballot-spec =
+    tie.close
+    (tie.spec
+    active-flags-requires
+    vote-of-requires
+    enum-known-d
+    enum-told
+    returns
+    clean-flags-requires
+    count-flags-requires
+    quorum-of-requires
+    returns-2)

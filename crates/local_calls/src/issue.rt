@@ -1,7 +1,7 @@
 // issue: a request gets the next ID, which goes into its locks' places.
 ghost use mathlib.Core.Path.{_≡_};
-ghost use mathlib.Core.List.{List, [], _∷_};
-ghost use Prim.Native.Nat.{ℕ, _+_, _≤_, _<_, _^_};
+ghost use mathlib.Core.List.{[], _∷_};
+ghost use Prim.Native.Nat.{_+_, _≤_, _<_, _^_};
 ghost use lib.ListN.{length};
 ghost use Rattle.locks.specs.Locks.{firstHeld, markedAll};
 ghost use Rattle.storage.specs.Sizes.{dataLimit};

@@ -14,11 +14,10 @@ use Rattle.quorum.specs.declared.Vote.{Vote}
 use Rattle.quorum.specs.declared.Vote.the-variants.{Undecided, Decided}
 use Rattle.quorum.specs.Vote.{flagsOf, majorityMark, decided, voteOf}
 use Rattle.quorum.proofs.Same.{vote-same}
-use Rattle.fate.specs.declared.Fate.{Fate}
 use Rattle.cluster.specs.declared.Register.{Register}
 use Rattle.cluster.specs.declared.Server.{Server}
 use Rattle.cluster.specs.State.{markAt, activeAt, entryAt}
-use Rattle.cluster.specs.Refusals.{isCut, undecided, voteMark, cleanAt, tooFewClean, sessionDiffers, Row, row, seen, declined, firstOf}
+use Rattle.cluster.specs.Refusals.{undecided, voteMark, cleanAt, tooFewClean, Row, row, firstOf}
 use Rattle.cluster.specs.Effects.{entryAfter}
 use Rattle.register_calls.specs.declared.open.Ballot.{Ballot}
 use Rattle.register_calls.specs.Settled.{Counted}
@@ -29,9 +28,9 @@ unfolding upTo
 upTo-same zero f g l e = refl
 upTo-same (suc n) f g l e = ap₂ (λ (xs : List _) (x : _). set xs n x) (upTo-same n f g l (λ i h. e i (omega arith))) (e n (omega arith))
 
--- an array of flags read at a number below r
-pub flag-at : (p : ℕ → Bool) (r n i : ℕ) (flags : List Bool) → n ≤ 7 → i < n → flags ≡ upTo p (replicate 7 false) n → flagsOf flags i ≡ p i
-flag-at p r n i flags h l e = ap (λ (f : List Bool). getD f i false) e ∙ upTo-at p (replicate 7 false) n i false l (omega (arith, length-replicate {A = Bool} 7 false))
+-- an array of flags read at a number below n
+pub flag-at : (p : ℕ → Bool) (n i : ℕ) (flags : List Bool) → n ≤ 7 → i < n → flags ≡ upTo p (replicate 7 false) n → flagsOf flags i ≡ p i
+flag-at p n i flags h l e = ap (λ (f : List Bool). getD f i false) e ∙ upTo-at p (replicate 7 false) n i false l (omega (arith, length-replicate {A = Bool} 7 false))
 
 -- ---- the vote
 
@@ -45,7 +44,7 @@ decided-is false m d e = let z : _≡_ {A = ℕ} 0 1 = cc in absurd (omega arith
 
 module _ (v : Server) (r : ℕ) (flags : List Bool) (h : r ≤ 7) (e : flags ≡ upTo (activeAt v) (replicate 7 false) 7) where
   active-is : Same r (flagsOf flags) (activeAt v)
-  active-is i l = flag-at (activeAt v) r 7 i flags (omega arith) (omega arith) e
+  active-is i l = flag-at (activeAt v) 7 i flags (omega arith) (omega arith) e
 
   vote-is : voteOf (flagsOf flags) (markAt v) r ≡ voteOf (activeAt v) (markAt v) r
   vote-is = vote-same r (flagsOf flags) (activeAt v) (markAt v) active-is
@@ -67,7 +66,7 @@ module _ (v : Server) (r : ℕ) (flags : List Bool) (h : r ≤ 7) (e : flags ≡
 -- what is made by the clean flags
 module _ (v : Server) (d r : ℕ) (clean : List Bool) (h : r ≤ 7) (e : clean ≡ upTo (cleanAt v d) (replicate 7 false) r) where
   clean-at : Same r (flagsOf clean) (cleanAt v d)
-  clean-at i l = flag-at (cleanAt v d) r r i clean h l e
+  clean-at i l = flag-at (cleanAt v d) r i clean h l e
 
   pub clean-count : count (flagsOf clean) r ≡ count (cleanAt v d) r
   clean-count = count-same r (flagsOf clean) (cleanAt v d) clean-at

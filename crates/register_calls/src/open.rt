@@ -9,7 +9,7 @@ ghost use Rattle.base.specs.Below.{upTo};
 ghost use Rattle.quorum.specs.Vote.{flagsOf, marksOf};
 ghost use Rattle.cluster.specs.declared.Records.{Records};
 ghost use Rattle.cluster.specs.declared.Call.the-variants as call;
-ghost use Rattle.cluster.specs.State.{serverAt, entryAt, tableSize, withTable};
+ghost use Rattle.cluster.specs.State.{serverAt, entryAt};
 ghost use Rattle.cluster.specs.Refusals.{isCut, row, seen, firstOf, cleanAt, sessionDiffers};
 ghost use Rattle.cluster.specs.Effects.{arrives, entryAfter, openedRegister, openedServer, openEffect};
 ghost use Rattle.cluster.specs.Step.{step};

@@ -22,7 +22,7 @@ tablesLength = 4 * tableSize
 
 -- a piece of input that is read at once, and the replies to it: 24 bytes is the longest, and each line has at least its newline
 abbrev pub pieceLimit : ℕ
-pieceLimit = 65536
+pieceLimit = 4096
 
 abbrev pub outLimit : ℕ
 outLimit = 24 * pieceLimit

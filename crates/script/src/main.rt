@@ -24,8 +24,8 @@ const MEDIA: usize = 45248;
 
 const TABLES: usize = 4096;
 
-// Room for the replies to the 65,536 bytes that are read at once, 24 a byte.
-const OUT: usize = 1572864;
+// Room for the replies to the 4,096 bytes that are read at once.
+const OUT: usize = 98304;
 
 // Whether the input goes on, has ended, or could not be read or its replies not be written.
 const GOES_ON: u8 = 0;
@@ -72,7 +72,7 @@ fn answer_piece(
     requires { ⌜ (s .n ≤ lineRoom) × (s .o ≡ 0) ⌝ }
     ensures { λ r. ⌜ (r .state .n ≤ lineRoom) × (r .state .o ≡ 0) ⌝ }
 {
-    let mut chunk = io::large_buffer();
+    let mut chunk = io::buffer();
     let got = libc::read(STDIN_FILENO, &mut chunk);
     if got < 0 {
         fail(b"script: standard input cannot be read\n");

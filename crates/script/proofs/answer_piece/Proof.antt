@@ -6,8 +6,8 @@ use borrow.Author.Needs.{needs}
 use Rattle.script.proofs.answer_piece.Tie as tie
 use Rattle.script.proofs.answer_piece.Statement.{statement}
 
-large-buffer-requires : tie.Need-large-buffer-requires
-large-buffer-requires c κs = search needs
+buffer-requires : tie.Need-buffer-requires
+buffer-requires c κs = search needs
 
 slice-aggregate-read : tie.Need-slice-aggregate-read
 slice-aggregate-read c = search needs
@@ -45,7 +45,7 @@ part-feed-end c = search needs
 feed-requires : tie.Need-feed-requires
 feed-requires c κs =
     let p = c .before .before .before .before .before .before .before .before .before .before .before .before .before .before .before .before .before .before .before .before .before .before .pre in
-    (p .0, (p .1 .0, (p .1 .1 .0, simp length-take (omega (arith, p .1 .1 .1, c .before .before .before .before .before .before .before .before .before .before .before .before .before .before .before .large-buffer .ensures)))))
+    (p .0, (p .1 .0, (p .1 .1 .0, simp length-take (omega (arith, p .1 .1 .1, c .before .before .before .before .before .before .before .before .before .before .before .before .before .before .before .buffer .ensures)))))
 
 emptied-requires : tie.Need-emptied-requires
 emptied-requires c κs = search needs
@@ -100,7 +100,7 @@ pub answer-piece-spec : {M : Type 1} → statement M
 answer-piece-spec =
     tie.close
     (tie.spec
-    large-buffer-requires
+    buffer-requires
     slice-aggregate-read
     read-requires
     slice-aggregate-fail

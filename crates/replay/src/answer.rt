@@ -3,7 +3,6 @@ ghost use mathlib.Core.Path.{_≡_};
 ghost use Rattle.crc32.specs.Tables.{tablesOf};
 use crate::beside;
 use crate::calls;
-use crate::calls::Asked;
 use crate::held::Held;
 use crate::held::Next;
 use crate::lent;
@@ -32,7 +31,9 @@ fn hand_in(t: &Tables, line: &[u8], h: Held, m: &mut [u8], tables: &mut [u64]) -
 pub fn answer(t: &Tables, line: &[u8], h: Held, m: &mut [u8], tables: &mut [u64]) -> Held
     requires { ⌜ now t ≡ tablesOf ⌝ }
 {
-    if let Asked::Is(call) = calls::read(line::first(line), line) {
+    let asked = calls::read(line::first(line), line);
+    if asked.fits {
+        let call = asked.call;
         return perform::perform(t, h, call, m, tables);
     }
     let next = hand_in(t, line, h, m, tables);

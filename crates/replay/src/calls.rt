@@ -4,70 +4,95 @@ ghost use Prim.Native.Nat.{_≤_};
 use crate::fields;
 use cluster::Call;
 use cluster::Request;
+use fate::Fate;
 use stored::fates;
 use stored::fates::FateField;
 use text::line;
 use text::number;
 use text::number::Word;
 
-pub enum Asked {
-    Is(Call),
-    Unfit,
+// The call, if the line fits one.
+pub struct Asked {
+    pub fits: bool,
+    pub call: Call,
 }
 
-// The fate behind n numbers, if the line has just these fields.
-fn fate_behind(line: &[u8], n: usize) -> FateField
-    requires { ⌜ n ≤ 3 ⌝ }
-{
-    if !fields::fit(line, n + 4, n + 3) {
-        return FateField::Unfit;
+fn unfit() -> Asked {
+    Asked {
+        fits: false,
+        call: Call::Reassign,
     }
-    fates::read(line, n + 1)
 }
 
-// take, server, FATE.
-fn take(line: &[u8]) -> Asked {
-    let FateField::Is(f) = fate_behind(line, 1) else {
-        return Asked::Unfit;
-    };
-    Asked::Is(Call::Take(fields::at(line, 1), f))
+// Calls with a fate by their words: 0 to 7; 8 for another word.
+fn kind(word: &[u8]) -> u64 {
+    if check::same(word, b"take") {
+        return 0;
+    }
+    if check::same(word, b"prepare") {
+        return 1;
+    }
+    if check::same(word, b"copy") {
+        return 2;
+    }
+    if check::same(word, b"trim") {
+        return 3;
+    }
+    if check::same(word, b"open") {
+        return 4;
+    }
+    if check::same(word, b"send") {
+        return 5;
+    }
+    if check::same(word, b"note") {
+        return 6;
+    }
+    if check::same(word, b"read") {
+        return 7;
+    }
+    8
 }
 
-// prepare, server, replica, FATE.
-fn prepare(line: &[u8]) -> Asked {
-    let FateField::Is(f) = fate_behind(line, 2) else {
-        return Asked::Unfit;
-    };
-    Asked::Is(Call::Prepare(fields::at(line, 1), fields::at(line, 2), f))
+// How many numbers stand before the fate: a server; a server and a replica; or with them another replica or an ID.
+fn numbers(kind: u64) -> usize
+    ensures { λ r. ⌜ r ≤ 3 ⌝ }
+{
+    match kind {
+        0 | 4 => 1,
+        2 | 7 => 3,
+        _ => 2,
+    }
 }
 
-// copy, server, from, to, FATE.
-fn copy(line: &[u8]) -> Asked {
-    let FateField::Is(f) = fate_behind(line, 3) else {
-        return Asked::Unfit;
-    };
-    Asked::Is(Call::Copy(
-        fields::at(line, 1),
-        fields::at(line, 2),
-        fields::at(line, 3),
-        f,
-    ))
+fn with_fate(kind: u64, a: u64, b: u64, c: u64, f: Fate) -> Call {
+    match kind {
+        0 => Call::Take(a, f),
+        1 => Call::Prepare(a, b, f),
+        2 => Call::Copy(a, b, c, f),
+        3 => Call::Trim(a, b, f),
+        4 => Call::Open(a, f),
+        5 => Call::Send(a, b, f),
+        6 => Call::Note(a, b, f),
+        _ => Call::Read(a, b, c, f),
+    }
 }
 
-// trim, server, replica, FATE.
-fn trim(line: &[u8]) -> Asked {
-    let FateField::Is(f) = fate_behind(line, 2) else {
-        return Asked::Unfit;
+// A line of a call with a fate: its numbers, FATE, and nothing else.
+fn read_fated(line: &[u8], kind: u64) -> Asked {
+    let n = numbers(kind);
+    if !fields::fit(line, n + 4, n + 3) {
+        return unfit();
+    }
+    let FateField::Is(f) = fates::read(line, n + 1) else {
+        return unfit();
     };
-    Asked::Is(Call::Trim(fields::at(line, 1), fields::at(line, 2), f))
-}
-
-// open, server, FATE.
-fn open(line: &[u8]) -> Asked {
-    let FateField::Is(f) = fate_behind(line, 1) else {
-        return Asked::Unfit;
-    };
-    Asked::Is(Call::Open(fields::at(line, 1), f))
+    let a = fields::at(line, 1);
+    let b = fields::at(line, 2);
+    let c = fields::at(line, 3);
+    Asked {
+        fits: true,
+        call: with_fate(kind, a, b, c, f),
+    }
 }
 
 // A request, if its numbers have their widths.
@@ -106,97 +131,38 @@ fn request(line: &[u8]) -> Wanted {
 // issue, server, REQUEST; its data and locks lie beside it.
 fn issue(line: &[u8]) -> Asked {
     if !fields::fit(line, 8, 7) {
-        return Asked::Unfit;
+        return unfit();
     }
     let Wanted::Is(q) = request(line) else {
-        return Asked::Unfit;
+        return unfit();
     };
-    Asked::Is(Call::Issue(fields::at(line, 1), q))
+    Asked {
+        fits: true,
+        call: Call::Issue(fields::at(line, 1), q),
+    }
 }
 
-// send, server, replica, FATE.
-fn send(line: &[u8]) -> Asked {
-    let FateField::Is(f) = fate_behind(line, 2) else {
-        return Asked::Unfit;
-    };
-    Asked::Is(Call::Send(fields::at(line, 1), fields::at(line, 2), f))
-}
-
-// note, server, replica, FATE.
-fn note(line: &[u8]) -> Asked {
-    let FateField::Is(f) = fate_behind(line, 2) else {
-        return Asked::Unfit;
-    };
-    Asked::Is(Call::Note(fields::at(line, 1), fields::at(line, 2), f))
-}
-
-// read, server, replica, ID, FATE.
-fn read_place(line: &[u8]) -> Asked {
-    let FateField::Is(f) = fate_behind(line, 3) else {
-        return Asked::Unfit;
-    };
-    Asked::Is(Call::Read(
-        fields::at(line, 1),
-        fields::at(line, 2),
-        fields::at(line, 3),
-        f,
-    ))
-}
-
-// stop, server.
-fn stop(line: &[u8]) -> Asked {
-    if !fields::fit(line, 2, 1) {
-        return Asked::Unfit;
+// stop, server; reassign.
+fn read_plain(word: &[u8], line: &[u8]) -> Asked {
+    if fields::is(word, b"stop", line, 2, 1) {
+        return Asked {
+            fits: true,
+            call: Call::Stop(fields::at(line, 1)),
+        };
     }
-    Asked::Is(Call::Stop(fields::at(line, 1)))
-}
-
-// reassign.
-fn reassign(line: &[u8]) -> Asked {
-    if !fields::fit(line, 1, 0) {
-        return Asked::Unfit;
+    Asked {
+        fits: fields::is(word, b"reassign", line, 1, 0),
+        call: Call::Reassign,
     }
-    Asked::Is(Call::Reassign)
-}
-
-// The calls of an open server, stop and reassign.
-fn read_open(word: &[u8], line: &[u8]) -> Asked {
-    if check::same(word, b"issue") {
-        return issue(line);
-    }
-    if check::same(word, b"send") {
-        return send(line);
-    }
-    if check::same(word, b"note") {
-        return note(line);
-    }
-    if check::same(word, b"read") {
-        return read_place(line);
-    }
-    if check::same(word, b"stop") {
-        return stop(line);
-    }
-    if check::same(word, b"reassign") {
-        return reassign(line);
-    }
-    Asked::Unfit
 }
 
 pub fn read(word: &[u8], line: &[u8]) -> Asked {
-    if check::same(word, b"take") {
-        return take(line);
+    let k = kind(word);
+    if k < 8 {
+        return read_fated(line, k);
     }
-    if check::same(word, b"prepare") {
-        return prepare(line);
+    if check::same(word, b"issue") {
+        return issue(line);
     }
-    if check::same(word, b"copy") {
-        return copy(line);
-    }
-    if check::same(word, b"trim") {
-        return trim(line);
-    }
-    if check::same(word, b"open") {
-        return open(line);
-    }
-    read_open(word, line)
+    read_plain(word, line)
 }

@@ -3,7 +3,7 @@
 use crate::random::Random;
 
 /// What a program reads at once at most; a longer piece could be cut short on its way.
-pub const LONGEST: usize = 64 * 1024;
+pub const LONGEST: usize = 4 * 1024;
 
 /// More pieces than this take long and show nothing new.
 const MOST_PIECES: usize = 10_000;
@@ -11,7 +11,7 @@ const MOST_PIECES: usize = 10_000;
 /// Lengths from 1 to `LONGEST` that sum up to `length`.
 pub fn draw(random: &mut Random, length: usize) -> Vec<usize> {
     let full = random.chance(3);
-    let widest = *random.pick(&[1, 3, 40, 700, 5_000]).max(&(2 * length / MOST_PIECES));
+    let widest = *random.pick(&[1, 3, 40, 700, 4_000]).max(&(2 * length / MOST_PIECES));
     let mut pieces = Vec::new();
     let mut left = length;
     while left > 0 {

@@ -5,13 +5,13 @@ ghost use Rattle.crc32.specs.Tables.{tablesOf};
 use crate::stage;
 use crate::turns;
 use cluster::Call;
+use cluster::Closing;
 use cluster::Entry;
 use cluster::Records;
 use cluster::put_server;
 use crc32::Tables;
 use fate::Fate;
 use std::num::wrapping_add_u64;
-use cluster::Closing;
 
 // The CRC of 64 KB of a fresh cluster's media.
 pub fn crc(t: &Tables, m: &mut [u8], tables: &mut [u64], count: u64) -> u64

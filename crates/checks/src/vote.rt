@@ -3,8 +3,8 @@ ghost use mathlib.Core.Path.{_≡_};
 ghost use Prim.Native.Nat.{_≤_};
 ghost use Rattle.quorum.specs.Vote.{voteOf};
 ghost use Rattle.cluster.specs.State.{votesAt, markAt};
-use cluster::Server;
 use crate::active_flags;
+use cluster::Server;
 use quorum::Vote;
 use quorum::vote_of;
 

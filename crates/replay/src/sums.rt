@@ -2,12 +2,12 @@
 ghost use mathlib.Core.Path.{_≡_};
 ghost use Prim.Native.Nat.{_≤_};
 ghost use Rattle.crc32.specs.Tables.{tablesOf};
+use cluster::Closing;
 use cluster::Entry;
 use cluster::Phase;
 use cluster::Records;
 use cluster::Server;
 use crc32::Tables;
-use cluster::Closing;
 
 // Numbers of the register, and of a server's record; the 64 bytes of the issued record count as eight.
 const REGISTER: usize = 23;

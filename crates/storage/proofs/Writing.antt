@@ -49,7 +49,6 @@ module _ (f : Fate) (g m : List ℕ) where
   pub appended : (n : ℕ) (bs l : List ℕ) → l ≡ leave (effectOf f 1) g (placeWrite (n + 1) bs) m → l ≡ after f g (appendWrites n bs) m
   appended n bs l e = e ∙ sym (from-one g 1 f (placeWrite (n + 1) bs) m) ∙ numbered g f (appendWrites n bs) m
 
-
 module _ (r : Read) (f : Fate) (g m : List ℕ) (a : AsRead r m) where
   pub prepared : (s : ℕ) (to : Target) (k : ℕ) (l l′ : List ℕ) → let w = promising (r .current) (r .slot) s in k ≡ 1 + length w
       → l ≡ afterFrom 1 f g w m → l′ ≡ afterFrom k f g (closing (r .mark) to) l → l′ ≡ after f g (prepareWrites (r .places) s to m) m

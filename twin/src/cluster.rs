@@ -9,7 +9,7 @@ mod reply;
 mod state;
 
 pub use call::{Call, Message, Request};
-pub use reply::{Answer, Refusal, Reply};
+pub use reply::{Answer, Refusal, Reply, BY_RECEIVER, ORDER};
 pub use state::{
     Cluster, Entry, Phase, Records, Register, Server, Shape, Standing, MOST_PLACES, SERVERS,
 };

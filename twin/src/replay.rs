@@ -44,7 +44,7 @@ mod useful;
 
 use crate::random::Random;
 
-pub use counts::{Counts, CALLS, FATES, REFUSALS};
+pub use counts::{Counts, CALLS, FATES};
 
 /// The stored run: its lines, what they print, and what it meets.
 pub struct Run {

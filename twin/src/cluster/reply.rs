@@ -54,6 +54,13 @@ pub enum Refusal {
     OtherSession,
 }
 
+/// The numbers of the list, in the order in which they are checked.
+pub const ORDER: [u64; 22] =
+    [1, 2, 3, 4, 5, 6, 7, 8, 9, 10, 11, 12, 13, 14, 15, 16, 17, 18, 19, 20, 21, 22];
+
+/// Those that the receiver of a message gives: seen only if the message is answered.
+pub const BY_RECEIVER: [u64; 5] = [18, 19, 20, 21, 22];
+
 impl Refusal {
     /// Document 01's number.
     pub fn number(&self) -> u64 {

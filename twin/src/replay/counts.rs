@@ -4,7 +4,7 @@ use std::collections::BTreeMap;
 use std::fmt;
 
 use super::texts::word;
-use crate::cluster::{Answer, Call, Reply};
+use crate::cluster::{Answer, Call, Reply, ORDER};
 use crate::fate::{Fate, Left};
 
 pub const CALLS: [&str; 11] = [
@@ -12,9 +12,6 @@ pub const CALLS: [&str; 11] = [
 ];
 
 pub const FATES: [&str; 6] = ["answered", "lost", "answer lost", "cut old", "cut new", "cut torn"];
-
-/// The numbers of refusals, from 1.
-pub const REFUSALS: u64 = 22;
 
 #[derive(Default)]
 pub struct Counts {
@@ -103,7 +100,7 @@ fn fate_name(fate: Fate) -> (&'static str, u64) {
 impl fmt::Display for Counts {
     fn fmt(&self, f: &mut fmt::Formatter<'_>) -> fmt::Result {
         write!(f, "{:9}{:>6}{:>7}", "call", "ok", "silent")?;
-        (1..=REFUSALS).try_for_each(|number| write!(f, "{number:>5}"))?;
+        ORDER.iter().try_for_each(|number| write!(f, "{number:>5}"))?;
         CALLS.iter().try_for_each(|call| self.write_replies(f, call))?;
         write!(f, "\n\n{:9}", "call")?;
         FATES.iter().try_for_each(|fate| write!(f, "{fate:>12}"))?;
@@ -117,7 +114,7 @@ impl fmt::Display for Counts {
 impl Counts {
     fn write_replies(&self, f: &mut fmt::Formatter<'_>, call: &str) -> fmt::Result {
         write!(f, "\n{call:9}{:>6}{:>7}", self.ok(call), self.silent(call))?;
-        (1..=REFUSALS).try_for_each(|number| write!(f, "{:>5}", self.refused(call, number)))
+        ORDER.iter().try_for_each(|&number| write!(f, "{:>5}", self.refused(call, number)))
     }
 
     fn write_fates(&self, f: &mut fmt::Formatter<'_>, call: &str) -> fmt::Result {

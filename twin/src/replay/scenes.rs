@@ -84,17 +84,17 @@ fn with_each_fault(recorder: &mut Recorder, scene: &Scene) {
     for fault in faults_of(scene) {
         let mut scene = with_faults(scene, &[&fault]);
         try_scene(recorder, scene.clone());
-        if fault.number >= 17 && scene.kind != Kind::Reassign {
+        if (fault.by_receiver() || fault.number == 17) && scene.kind != Kind::Reassign {
             scene.set_message(Message::new(Fate::AnswerLost));
             try_scene(recorder, scene);
         }
     }
 }
 
-/// Two faults at once, of a number and of the next one that the call can meet: the lower is given.
+/// Two faults at once, of a number and of the next one in the list that the call can meet: the first is given.
 fn with_two_faults(recorder: &mut Recorder, random: &mut Random, scene: &Scene) {
     let mut faults = faults_of(scene);
-    faults.sort_by_key(|fault| fault.number);
+    faults.sort_by_key(Fault::rank);
     let groups: Vec<&[Fault]> = faults.chunk_by(|a, b| a.number == b.number).collect();
     for pair in groups.windows(2) {
         let pair = [random.pick(pair[0]), random.pick(pair[1])];

@@ -1,6 +1,6 @@
 //! Faults, each with the number that it makes a call decline with.
 
-use crate::cluster::{Message, Phase, Standing};
+use crate::cluster::{Message, Phase, Standing, BY_RECEIVER, ORDER};
 use crate::fate::{Fate, Left};
 use crate::medium::{mark, place_at, put, PLACE_BYTES, SLOTS_BYTES, WIPED};
 
@@ -15,6 +15,18 @@ pub struct Fault {
     /// The calls that meet it.
     pub calls: &'static [Kind],
     pub make: fn(&mut Scene),
+}
+
+impl Fault {
+    /// Where its number stands in the list.
+    pub fn rank(&self) -> usize {
+        ORDER.iter().position(|&number| number == self.number).expect("a number of the list")
+    }
+
+    /// The receiver of the message gives its number.
+    pub fn by_receiver(&self) -> bool {
+        BY_RECEIVER.contains(&self.number)
+    }
 }
 
 const EVERY: &[Kind] =
@@ -37,10 +49,10 @@ pub fn faults_of(scene: &Scene) -> Vec<Fault> {
     all_faults().into_iter().filter(|fault| fault.calls.contains(&scene.kind)).collect()
 }
 
-/// Faults of higher numbers come first, so that those of lower ones have the last word.
+/// Faults that are checked later come first, so that those checked earlier have the last word.
 pub fn with_faults(scene: &Scene, faults: &[&Fault]) -> Scene {
     let mut faults = faults.to_vec();
-    faults.sort_by_key(|fault| std::cmp::Reverse(fault.number));
+    faults.sort_by_key(|fault| std::cmp::Reverse(fault.rank()));
     let mut scene = scene.clone();
     for fault in faults {
         (fault.make)(&mut scene);

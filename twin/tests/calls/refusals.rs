@@ -63,7 +63,7 @@ fn what_the_receiver_declines_is_seen_only_if_answered() {
             Kind::Take | Kind::Open => &replica_fates[..2],
             _ => &replica_fates,
         };
-        for fault in faults_of(&scene).iter().filter(|fault| fault.number >= 18) {
+        for fault in faults_of(&scene).iter().filter(|fault| fault.by_receiver()) {
             for &fate in fates {
                 let mut scene = with_faults(&scene, &[fault]);
                 scene.set_message(Message::new(fate));

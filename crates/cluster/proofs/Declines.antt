@@ -160,7 +160,7 @@ module _ (h : Shape) (x : State) (p : Input) where
   replies (call.Stop s) = (_, refl)
   replies call.Reassign = (_, refl)
 
-never-no : (a : Bool) (us : List ℕ) (n : ℕ) (vs : List ℕ) → cond a (ok us) silent ≡ no n vs → ⊥
+pub never-no : (a : Bool) (us : List ℕ) (n : ℕ) (vs : List ℕ) → cond a (ok us) silent ≡ no n vs → ⊥
 never-no true us n vs e = let z : _≡_ {A = ℕ} 0 1 = cc in omega arith
 never-no false us n vs e = let z : _≡_ {A = ℕ} 0 1 = cc in omega arith
 

@@ -12,9 +12,8 @@ use Rattle.base.proofs.Tests.{both}
 use Rattle.quorum.specs.declared.Vote.{Vote}
 use Rattle.quorum.specs.declared.Vote.the-variants.{Undecided, Decided}
 use Rattle.quorum.specs.Vote.{backed, majorityMark, decided, voteOf}
-use Rattle.locks.specs.declared.LockTest.{LockTest}
-use Rattle.locks.specs.declared.LockTest.the-variants.{Free, Held}
 use Rattle.locks.specs.Locks.{placeOf, estimateOf, firstHeld}
+use Rattle.cluster.specs.Refusals.{Verdict, pass, declined, firstOf}
 use Rattle.marked_examples.specs.Examples.{Example, vote, places, request, table, voteIn, placesOf, requestOn, Says}
 
 sameVote : Vote → Vote → Bool
@@ -23,22 +22,22 @@ sameVote Undecided (Decided d) = false
 sameVote (Decided c) Undecided = false
 sameVote (Decided c) (Decided d) = eqb c d
 
-sameTest : LockTest → LockTest → Bool
-sameTest Free Free = true
-sameTest Free (Held k e) = false
-sameTest (Held k e) Free = false
-sameTest (Held k e) (Held l f) = eqb k l && eqb e f
-
 sameList : List ℕ → List ℕ → Bool
 sameList [] [] = true
 sameList [] (y ∷ ys) = false
 sameList (x ∷ xs) [] = false
 sameList (x ∷ xs) (y ∷ ys) = eqb x y && sameList xs ys
 
+sameVerdict : Verdict → Verdict → Bool
+sameVerdict pass pass = true
+sameVerdict pass (declined n vs) = false
+sameVerdict (declined n vs) pass = false
+sameVerdict (declined n vs) (declined m us) = eqb n m && sameList vs us
+
 holds : Example → Bool
 holds (vote marks v) = sameVote (voteIn marks) v
 holds (places k ps) = sameList (placesOf k) ps
-holds (request k entry client t) = sameTest (requestOn k entry client) t
+holds (request k entry client t) = sameVerdict (requestOn k entry client) t
 
 every : List Example → Bool
 every [] = true
@@ -51,15 +50,6 @@ same-vote Undecided (Decided d) e = absurd (false≢true e)
 same-vote (Decided c) Undecided e = absurd (false≢true e)
 same-vote (Decided c) (Decided d) e = ap Decided (eqb-true c d e)
 
-same-test : (t u : LockTest) → sameTest t u ≡ true → t ≡ u
-unfolding sameTest
-same-test Free Free e = refl
-same-test Free (Held k f) e = absurd (false≢true e)
-same-test (Held k f) Free e = absurd (false≢true e)
-same-test (Held k f) (Held l g) e =
-    let b = both (eqb k l) (eqb f g) e in
-    ap₂ Held (eqb-true k l (b .0)) (eqb-true f g (b .1))
-
 same-list : (xs ys : List ℕ) → sameList xs ys ≡ true → xs ≡ ys
 unfolding sameList
 same-list [] [] e = refl
@@ -69,11 +59,20 @@ same-list (x ∷ xs) (y ∷ ys) e =
     let b = both (eqb x y) (sameList xs ys) e in
     ap₂ (λ (z : ℕ) (zs : List ℕ). z ∷ zs) (eqb-true x y (b .0)) (same-list xs ys (b .1))
 
+same-verdict : (t u : Verdict) → sameVerdict t u ≡ true → t ≡ u
+unfolding sameVerdict
+same-verdict pass pass e = refl
+same-verdict pass (declined n vs) e = absurd (false≢true e)
+same-verdict (declined n vs) pass e = absurd (false≢true e)
+same-verdict (declined n vs) (declined m us) e =
+    let b = both (eqb n m) (sameList vs us) e in
+    ap₂ declined (eqb-true n m (b .0)) (same-list vs us (b .1))
+
 says : (x : Example) → holds x ≡ true → Says x
 unfolding holds
 says (vote marks v) e = same-vote (voteIn marks) v e
 says (places k ps) e = same-list (placesOf k) ps e
-says (request k entry client t) e = same-test (requestOn k entry client) t e
+says (request k entry client t) e = same-verdict (requestOn k entry client) t e
 
 each : (xs : List Example) → every xs ≡ true → (x : Example) → List·Memᴰ x xs → Says x
 unfolding every
@@ -84,7 +83,7 @@ each (y ∷ ys) e x m =
 
 -- the whole table, by computation
 computed : every table ≡ true
-unfolding every holds sameVote sameTest sameList voteOf decided majorityMark backed highest count placeOf estimateOf firstHeld
+unfolding every holds sameVote sameVerdict sameList firstOf voteOf decided majorityMark backed highest count placeOf estimateOf firstHeld
 computed = refl
 
 pub examples : (x : Example) → List·Memᴰ x table → Says x

@@ -9,17 +9,20 @@ use lib.ListN.{length, getD, replicate}
 use Rattle.quorum.specs.declared.Vote.{Vote}
 use Rattle.quorum.specs.declared.Vote.the-variants.{Undecided, Decided}
 use Rattle.quorum.specs.Vote.{voteOf}
-use Rattle.locks.specs.declared.LockTest.{LockTest}
-use Rattle.locks.specs.declared.LockTest.the-variants.{Free, Held}
-use Rattle.locks.specs.Locks.{placeOf, firstHeld}
+use Rattle.locks.specs.Locks.{placeOf}
+use Rattle.cluster.specs.declared.Phase.the-variants.{Open}
+use Rattle.cluster.specs.declared.Server.{Server}
+use Rattle.cluster.specs.declared.Request.{Request}
+use Rattle.cluster.specs.State.{idleServer}
+use Rattle.cluster.specs.Refusals.{requestRows, Verdict, pass, declined, firstOf}
 
 pub data Example : Type 0 where
   -- the replicas' marks, `none` for an absent one, and the vote
   vote : List (Option ℕ) → Vote → Example
   -- a lock, and its three places
   places : ℕ → List ℕ → Example
-  -- a request's one lock, the table's entries, all alike, the client's mark, and whether the lock refuses it
-  request : ℕ → ℕ → ℕ → LockTest → Example
+  -- a request's one lock, the table's entries, all alike, the client's mark, and what issue's own list makes of it
+  request : ℕ → ℕ → ℕ → Verdict → Example
 
 abbrev pub table : List Example
 table =
@@ -40,9 +43,9 @@ table =
     -- h "Lock 0: 0, 0, 0."
     ∷ places 0 (0 ∷ 0 ∷ 0 ∷ [])
     -- i "One lock, client mark 0, entries 0: refusal 15."
-    ∷ request 1 0 0 (Held 1 0)
+    ∷ request 1 0 0 (declined 15 (1 ∷ 0 ∷ []))
     -- j "Client 6, estimate 5: granted."
-    ∷ request 1 5 6 Free
+    ∷ request 1 5 6 pass
     ∷ []
 
 -- what an example says of the definitions
@@ -61,8 +64,30 @@ voteIn marks = voteOf (λ i. known (getD marks i none)) (λ i. markOf (getD mark
 abbrev pub placesOf : ℕ → List ℕ
 placesOf k = map (placeOf k) (0 ∷ 1 ∷ 2 ∷ [])
 
-abbrev pub requestOn : ℕ → ℕ → ℕ → LockTest
-requestOn k entry client = firstHeld (replicate 1024 entry) (k ∷ []) client
+-- an open server that has acknowledged all that it issued, up to the client's mark
+abbrev pub serverAtMark : ℕ → Server
+serverAtMark n =
+    record {
+      phase = Open;
+      session = 1;
+      generation = 0;
+      entries = idleServer .entries;
+      known = idleServer .known;
+      dropped = idleServer .dropped;
+      marks = idleServer .marks;
+      start = 0;
+      issued = n;
+      acked = n;
+      held = idleServer .held;
+    }
+
+abbrev pub requestAtMark : ℕ → Request
+requestAtMark n = record { mark = n; client = 0; generation = 0; partition = 0; sequence = 0; header = 0 }
+
+-- issue's own refusals, of a cluster of 1,000 places and a request without data
+abbrev pub requestOn : ℕ → ℕ → ℕ → Verdict
+requestOn k entry client =
+    firstOf (requestRows 1000 (serverAtMark client) (requestAtMark client) 0 (replicate 1024 entry) (k ∷ []))
 
 abbrev pub Says : Example → Type 0
 Says (vote marks v) = voteIn marks ≡ v

@@ -28,7 +28,7 @@ extern "C" {
  * They are if `length` is JOURNAL_PLACE_BYTES, `number` is from 1 to JOURNAL_MOST_PLACES, the record's ID is `number`, its data
  * length is at most 28, zeros follow the data, and its CRC-32 agrees.
  *
- * `bytes` is not null, also if `length` is 0, and nobody writes the bytes during the call. They need no alignment.
+ * `bytes` may be null if `length` is 0: the call then gives 0. Nobody writes the bytes during the call; they need no alignment.
  */
 uint64_t journal_place_check(const uint8_t *bytes, size_t length, uint64_t number);
 

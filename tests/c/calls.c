@@ -271,6 +271,13 @@ static void locks(void)
         compare_lock(random_number(), random_number());
 }
 
+/* A null pointer with length 0 is no place, whatever the number. */
+static void nothing(void)
+{
+    for (size_t i = 0; i < NUMBERS_COUNT; i++)
+        compare_place("null", NULL, 0, NUMBERS[i]);
+}
+
 int main(void)
 {
     static const uint8_t digits[] = {'1', '2', '3', '4', '5', '6', '7', '8', '9'};
@@ -278,6 +285,7 @@ int main(void)
     valid_places();
     numbers_and_ids();
     lengths();
+    nothing();
     damaged_bytes();
     data_lengths();
     tails();

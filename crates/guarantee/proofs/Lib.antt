@@ -24,7 +24,7 @@
 --   Registers   the register that an open leaves; Opening: what an open finds; Opened: what it leaves
 --
 -- Beside the theorem: Readable, every list of calls that fit is one of its lists; Whole, what it comes to for two sessions; Once, nothing in a history
--- is written over. The crate guarantee_example works a list out.
+-- is written over; Running, the states that the running calls leave are those of the list. The crate guarantee_example works a list out.
 -- Assumes nothing.
 pub mod Ties
 pub mod Blocks
@@ -49,6 +49,7 @@ pub mod Opened
 pub mod calls
 pub mod Along
 pub mod Guarantee
+pub mod Running
 pub mod Readable
 pub mod Whole
 pub mod Once

@@ -25,7 +25,8 @@
 --
 -- Each list of calls whose arguments fit is one of these lists: proofs/Readable.antt `readable`. With (1) and (2): all that the earlier of two
 -- opened sessions ever acknowledges is in the later one's log, the same bytes (proofs/Whole.antt `whole`). Nothing in a history is written over: a
--- session is opened once and issues an ID once (proofs/Once.antt `once`). The crate guarantee_example works a list out.
+-- session is opened once and issues an ID once (proofs/Once.antt `once`). Running `apply` over a list from `fresh::start` leaves the states of `along`
+-- (proofs/Running.antt `runs`). The crate guarantee_example works a list out.
 --
 -- How to read it, if you do not know the notation:
 --   x : A                  x is of the type A; ℕ are the numbers from 0, Bool is true or false, Type 0 is what is to be shown

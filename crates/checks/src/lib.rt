@@ -248,9 +248,9 @@ pub fn admit_replica(
     ensures { λ k. ⌜ ((m t : List ℕ) → length m ≡ media → length t ≡ tables → verdictOf k ≡ firstOf (replicaRows shape (stateOf records m t) server unnamed phases)) ⌝ }
 {
     let k = admit_server(shape, records, media, tables, server);
-    let wrong = !allowed(phase_at(records, server), phases);
+    let other = !allowed(phase_at(records, server), phases);
     let k = also(k, unnamed, Refusal::NoSuchReplica);
-    also(k, wrong, Refusal::OtherPhase)
+    also(k, other, Refusal::OtherPhase)
 }
 
 // A declined call changes nothing.

@@ -6,6 +6,9 @@ use cluster::Call;
 use cluster::Outcome;
 use cluster::Records;
 use cluster::Shape;
+use replica_calls::calls;
+use replica_calls::copy;
+use replica_calls::read;
 
 pub fn apply(
     shape: Shape,
@@ -21,37 +24,9 @@ pub fn apply(
 {
     match call {
         Call::Take(s, f) => register_calls::take::take(shape, records, media, tables, s, f),
-        Call::Prepare(s, i, f) => replica_calls::calls::prepare(
-            shape,
-            records,
-            media,
-            tables,
-            s,
-            i,
-            f,
-            given,
-        ),
-        Call::Copy(s, a, b, f) => replica_calls::copy::copy(
-            shape,
-            records,
-            media,
-            tables,
-            s,
-            a,
-            b,
-            f,
-            given,
-        ),
-        Call::Trim(s, i, f) => replica_calls::calls::trim(
-            shape,
-            records,
-            media,
-            tables,
-            s,
-            i,
-            f,
-            given,
-        ),
+        Call::Prepare(s, i, f) => calls::prepare(shape, records, media, tables, s, i, f, given),
+        Call::Copy(s, a, b, f) => copy::copy(shape, records, media, tables, s, a, b, f, given),
+        Call::Trim(s, i, f) => calls::trim(shape, records, media, tables, s, i, f, given),
         Call::Open(s, f) => register_calls::open::open(shape, records, media, tables, s, f),
         Call::Issue(s, q) => local_calls::issue::issue(
             shape,
@@ -63,37 +38,9 @@ pub fn apply(
             content,
             locks,
         ),
-        Call::Send(s, i, f) => replica_calls::calls::send(
-            shape,
-            records,
-            media,
-            tables,
-            s,
-            i,
-            f,
-            given,
-        ),
-        Call::Note(s, i, f) => replica_calls::calls::note(
-            shape,
-            records,
-            media,
-            tables,
-            s,
-            i,
-            f,
-            given,
-        ),
-        Call::Read(s, i, n, f) => replica_calls::read::read(
-            shape,
-            records,
-            media,
-            tables,
-            s,
-            i,
-            n,
-            f,
-            given,
-        ),
+        Call::Send(s, i, f) => calls::send(shape, records, media, tables, s, i, f, given),
+        Call::Note(s, i, f) => calls::note(shape, records, media, tables, s, i, f, given),
+        Call::Read(s, i, n, f) => read::read(shape, records, media, tables, s, i, n, f, given),
         Call::Stop(s) => local_calls::stop::stop(shape, records, media, tables, s),
         Call::Reassign => local_calls::reassign::reassign(shape, records, media, tables),
     }

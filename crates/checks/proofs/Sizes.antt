@@ -1,14 +1,14 @@
 -- The cases of refusal 1, in the order in which the code tries them, and what a passed one says of sizes.
 -- Assumes nothing.
-use mathlib.Core.Path.{_≡_, refl}
-use mathlib.Core.Bool.{Bool, true, false, not, _&&_, _||_}
+use mathlib.Core.Path.{_≡_}
+use mathlib.Core.Bool.{true, false, not, _&&_, _||_}
 use mathlib.Core.Logic.{_⊎_, ⊎-elim}
 use Prim.Native.Nat.{ℕ, _+_, _*_, _≤_, _<_, _^_}
 use native.Mathlib.Nat.{mul-le-mul}
 use native.Mathlib.Omega.{arith}
 use lib.Dec.{eqb, leb}
 use borrow.Author.Tests.{not-false, eqb-true, leb-true, lt-leb, le-leb, eq-eqb, ne-eqb}
-use Rattle.base.proofs.Tests.{both, either}
+use Rattle.base.proofs.Tests.{both, either, neither}
 use Rattle.storage.specs.Sizes.{mediumSize}
 use Rattle.cluster.specs.declared.Shape.{Shape}
 use Rattle.cluster.specs.Refusals.{replicasFit, outside}
@@ -57,10 +57,6 @@ pub record Within (h : Shape) (m t : ℕ) : Type 0 where
   pub most : h .places ≤ 1000
   pub media : m ≡ h .replicas * mediumSize (h .places)
   pub tables : t ≡ 4096
-
-pub neither : (a b : Bool) → (a || b) ≡ false → (a ≡ false) × (b ≡ false)
-neither true b e = let z : _≡_ {A = ℕ} 0 1 = cc in absurd (omega arith)
-neither false b e = (refl, e)
 
 pub within : (h : Shape) (media tables : ℕ) → outside h media tables ≡ false → Within h media tables
 unfolding outside

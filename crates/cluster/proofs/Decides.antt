@@ -13,7 +13,7 @@ use lib.ListN.{length}
 use borrow.Author.Tests.{not-false, eqb-true, eq-eqb, leb-true, ltb-false}
 use Rattle.base.specs.Below.{all}
 use Rattle.base.proofs.Below.{all-at}
-use Rattle.base.proofs.Tests.{both, either}
+use Rattle.base.proofs.Tests.{both, either, neither}
 use Rattle.quorum.specs.Vote.{decided}
 use Rattle.quorum.proofs.Filling.{EveryFillingGives, FillingsDiffer, ClusterSize, KnownWithin}
 use Rattle.quorum.proofs.Decided.{deciding}
@@ -61,10 +61,6 @@ TrimStatement =
     → TrimDecides h x (record { call = call.Trim s i f; content = content; locks = locks; given = given }) (serverAt (x .records) s) s i f
 
 -- ---- what refusals 1 to 3 leave known
-
-neither : (a b : Bool) → (a || b) ≡ false → (a ≡ false) × (b ≡ false)
-neither true b e = absurd (false≢true (sym e))
-neither false b e = (refl, e)
 
 odd : (r : ℕ) → replicasFit r ≡ true → (r ≡ 1) ⊎ (r ≡ 3) ⊎ (r ≡ 5) ⊎ (r ≡ 7)
 unfolding replicasFit

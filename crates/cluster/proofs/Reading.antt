@@ -8,6 +8,7 @@ use Prim.Native.Nat.{ℕ, zero, suc, _+_, _*_, _≤_, _<_}
 use native.Mathlib.Omega.{arith}
 use lib.Dec.{eqb, ltb}
 use borrow.Author.Tests.{not-false, eqb-true, eqb-false, ltb-false}
+use Rattle.base.proofs.Tests.{neither}
 use Rattle.octets.specs.Octets.{Bytes}
 use Rattle.octets.proofs.Reading.{bytes-part}
 use Rattle.fate.specs.declared.Fate.{Fate}
@@ -42,10 +43,6 @@ passes : (d : Verdict) (x : State) (e : Result) (values : List ℕ) → unless d
 unfolding unless
 passes pass x e values q = refl
 passes (declined n vs) x e values q = let z : _≡_ {A = ℕ} 0 1 = cc in absurd (omega arith)
-
-neither : (a b : Bool) → (a || b) ≡ false → (a ≡ false) × (b ≡ false)
-neither true b e = absurd (false≢true (sym e))
-neither false b e = (refl, e)
 
 is-answered : (b : Bool) (us vs : List ℕ) → cond b (ok us) silent ≡ ok vs → b ≡ true
 is-answered true us vs e = refl

@@ -10,7 +10,7 @@ use native.Mathlib.Nat.{mul-le-mul}
 use native.Mathlib.Omega.{arith}
 use lib.Dec.{eqb, leb, ltb}
 use borrow.Author.Tests.{leb-false, not-false, eqb-true, eqb-false, ltb-true, ltb-false}
-use Rattle.base.proofs.Tests.{lt-or-le}
+use Rattle.base.proofs.Tests.{lt-or-le, neither}
 use Rattle.storage.specs.Sizes.{placesLimit, mediumSize}
 use Rattle.cluster.specs.declared.Shape.{Shape}
 use Rattle.cluster.specs.declared.Server.{Server}
@@ -24,7 +24,6 @@ use Rattle.checks.specs.declared.Check.the-variants.{Pass}
 use Rattle.checks.specs.Verdicts.{verdictOf}
 use Rattle.checks.specs.Results.{stateOf}
 use Rattle.checks.proofs.Frame.{Admitted, admitted, holds-not}
-use Rattle.checks.proofs.Sizes.{neither}
 use Rattle.replica_calls.specs.Messages.{Named}
 
 pub named : (h : Shape) (v : Server) (s i bytes marks : ℕ) → Admitted h v s bytes marks → i < h .replicas → Named h v i bytes

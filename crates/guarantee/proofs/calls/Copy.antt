@@ -10,6 +10,7 @@ use native.Mathlib.Omega.{arith}
 use lib.ListN.{set}
 use lib.Dec.{leb, eqb}
 use borrow.Author.Tests.{leb-false, ltb-true, not-false}
+use Rattle.base.proofs.Tests.{neither}
 use Rattle.fate.specs.declared.Fate.{Fate}
 use Rattle.storage.specs.Places.{validPlace}
 use Rattle.storage.specs.Log.{placeAt, markOf}
@@ -36,7 +37,7 @@ use Rattle.guarantee.specs.History.{Session, History, setAt, valueOr, on
 use Rattle.guarantee.proofs.Sessions.{setAt-same, setAt-other}
 use Rattle.guarantee.proofs.Ties.{Sim, Goes, ReplicaTie, OpeningTie, OpenTie, ServersTie, SessionsTie, copyOf, rowOf, storyOf}
 use Rattle.guarantee.proofs.Frames.{replica-frame, session-frame}
-use Rattle.guarantee.proofs.Passing.{below-four, neither, not-idle}
+use Rattle.guarantee.proofs.Passing.{below-four, not-idle}
 use Rattle.guarantee.proofs.Facts.{opening-lives, valid-place}
 use Rattle.guarantee.proofs.Operations.{Grown}
 use Rattle.guarantee.proofs.Messages.{Message, message-of, agrees, accepts, is-answered, active-member}

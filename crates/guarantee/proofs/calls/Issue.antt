@@ -9,6 +9,7 @@ use native.Mathlib.Omega.{arith}
 use lib.ListN.{length, set}
 use lib.Dec.{ltb}
 use borrow.Author.Tests.{ltb-false, eqb-false}
+use Rattle.base.proofs.Tests.{neither}
 use Rattle.octets.proofs.Laws.{length-part}
 use Rattle.storage.specs.Sizes.{dataLimit}
 use Rattle.storage.specs.Places.{recordBytes, validPlace}
@@ -35,7 +36,7 @@ use Rattle.cluster.specs.Effects.{issuedFields, issuedServer, issueEffect}
 use Rattle.guarantee.specs.History.{History, Logged, issuedAs, told}
 use Rattle.guarantee.proofs.Ties.{rowOf, storyOf, loggedOf, OpenTie, ServerTie, ServersTie, SessionTie, SessionsTie, Sim}
 use Rattle.guarantee.proofs.Frames.{server-frame, alone-in, table-others, table-written, session-frame}
-use Rattle.guarantee.proofs.Passing.{below-four, is-open, neither, within}
+use Rattle.guarantee.proofs.Passing.{below-four, is-open, within}
 use Rattle.guarantee.proofs.Sessions.{setAt-same, setAt-other, told-issued}
 use Rattle.guarantee.proofs.Facts.{open-lives}
 use Rattle.guarantee.proofs.Played.{with-call, Before, Played}

@@ -7,6 +7,7 @@ use mathlib.Core.List.{List}
 use Prim.Native.Nat.{ℕ, _^_, _≤_, _<_}
 use native.Mathlib.Omega.{arith}
 use borrow.Author.Tests.{ltb-false}
+use Rattle.base.proofs.Tests.{neither}
 use Rattle.fate.specs.declared.Fate.{Fate}
 use Rattle.storage.specs.declared.operation.Target.{Target}
 use Rattle.cluster.specs.declared.Closing.{Closing}
@@ -29,7 +30,7 @@ use Rattle.cluster.specs.Effects.{targetOf, heard, unheard, mediumAfter, withMe
 use Rattle.guarantee.specs.History.{History, told}
 use Rattle.guarantee.proofs.Ties.{Sim, Goes, ReplicaTie, ReplicasTie, OpeningTie, isUnresolved, copyOf, rowOf}
 use Rattle.guarantee.proofs.Frames.{replica-frame}
-use Rattle.guarantee.proofs.Passing.{below-four, neither, is-opening}
+use Rattle.guarantee.proofs.Passing.{below-four, is-opening}
 use Rattle.guarantee.proofs.Operations.{closed-le, prepared-tie, answered-tie}
 use Rattle.guarantee.proofs.Messages.{Message, message-of, accepts-prepare, is-answered}
 use Rattle.guarantee.proofs.Hearing.{only-none, only-set, only-then, opening-told, opening-forgets, opening-silent}

@@ -47,7 +47,7 @@ module _ (v : Server) (r : ℕ) (flags : List Bool) (h : r ≤ 7) (e : flags ≡
   active-is i l = flag-at (activeAt v) 7 i flags (omega arith) (omega arith) e
 
   vote-is : voteOf (flagsOf flags) (markAt v) r ≡ voteOf (activeAt v) (markAt v) r
-  vote-is = vote-same r (flagsOf flags) (activeAt v) (markAt v) active-is
+  vote-is = vote-same r (flagsOf flags) (activeAt v) (markAt v) (markAt v) active-is (λ i h. refl)
 
   pub not-decided : {x : Vote} → x ≡ voteOf (flagsOf flags) (markAt v) r → x ≡ Undecided → true ≡ undecided r v
   unfolding voteOf

@@ -1,5 +1,5 @@
 use native.Mathlib.Omega.{arith}
-use mathlib.Core.Path.{_∙_}
+use mathlib.Core.Path.{refl, _∙_}
 use mathlib.Core.Bool.{false}
 use lib.ListN.{replicate}
 use Rattle.base.proofs.Below.{upTo-at}
@@ -21,8 +21,9 @@ returns c =
     let v = c .before .before .before .before .before .args .v in
     let p = c .before .before .before .before .before .pre in
     c .vote-of .ensures
-    ∙ vote-same (c .before .before .before .before .before .args .r) (flagsOf (c .before .active-flags .result)) (votesAt v) (markAt v)
+    ∙ vote-same (c .before .before .before .before .before .args .r) (flagsOf (c .before .active-flags .result)) (votesAt v) (markAt v) (markAt v)
     (λ i l. rw (c .before .active-flags .ensures) (upTo-at (votesAt v) (replicate 7 false) 7 i false (omega arith) (omega arith)))
+    (λ i l. refl)
 
 pub vote-among-spec : {M : Type 1} → statement M
 vote-among-spec = tie.close (tie.spec active-flags-requires vote-of-requires returns)

@@ -1,4 +1,4 @@
--- The invariant: what is lent keeps its length. The measure is what is left of the input.
+-- `answer_all`. The invariant: what is lent keeps its length. The measure is what is left of the input.
 -- Assumes nothing.
 use mathlib.Core.Path.{_≡_}
 use Prim.Native.Nat.{_-_}

@@ -1,4 +1,4 @@
--- The loop's invariant: the flags made so far.
+-- `checks::active_flags`. The invariant: the flags below i say which replicas are known and not dropped, and the others are false.
 -- Assumes nothing.
 use mathlib.Core.Path.{_≡_, ap, _∙_}
 use mathlib.Core.Bool.{_&&_, not, false}

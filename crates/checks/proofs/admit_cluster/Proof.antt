@@ -1,3 +1,4 @@
+-- `checks::admit_cluster`: 1 declines at once; a passed 1 bounds R, which `mark_above` needs, and leaves 2 as the only row.
 use mathlib.Core.Path.{sym, _∙_}
 use mathlib.Core.List.{[], _∷_}
 use Rattle.cluster.specs.Refusals.{markAbove, row, firstOf}

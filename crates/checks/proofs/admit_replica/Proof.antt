@@ -1,3 +1,4 @@
+-- `checks::admit_replica`: 4 behind the server's rows, then 5, which need only be right if all of these pass (`if-passed`).
 use mathlib.Core.List.{[], _∷_, _++_}
 use Rattle.cluster.specs.Refusals.{row, serverRows}
 use Rattle.cluster.proofs.Rows.{passed}

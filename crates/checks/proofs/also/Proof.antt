@@ -1,3 +1,4 @@
+-- `checks::also`: a refusal stays; a pass becomes the verdict of the one row, by whether `bad` holds.
 use Rattle.cluster.specs.Refusals.{firstOf, andThen}
 use borrow.Author.Needs.{needs}
 use Rattle.checks.proofs.also.Statement.{statement}

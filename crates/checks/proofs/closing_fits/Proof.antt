@@ -1,3 +1,4 @@
+-- `checks::closing_fits`, by the entry: an unresolved one fits, and a closing mark is compared with N.
 use borrow.Author.Needs.{needs}
 use Rattle.checks.proofs.closing_fits.Statement.{statement}
 use Rattle.checks.proofs.closing_fits.Tie as tie

@@ -1,3 +1,4 @@
+-- `checks::entries_fit`. The invariant: ok says whether the closing marks of the entries below i fit.
 use mathlib.Core.Path.{_≡_, ap, _∙_}
 use Prim.Native.Nat.{_-_, _≤_}
 use Rattle.base.specs.Below.{all}

@@ -1,3 +1,4 @@
+-- `checks::is_outside`: each return is one of the cases of refusal 1, in the code's order; R and N bound the product (`media-fit`).
 use mathlib.Core.Path.{sym, _∙_}
 use borrow.Author.Tests.{not-true, not-false}
 use Rattle.checks.proofs.Sizes.{replicas-le, media-fit, out-replicas, out-few, out-many, out-media, by-tables}

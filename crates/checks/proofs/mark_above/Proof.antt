@@ -1,3 +1,4 @@
+-- `checks::mark_above`. The invariant: ok says whether the marks of the servers below i fit; the register's entries come last.
 use mathlib.Core.Path.{_≡_}
 use Prim.Native.Nat.{_-_, _≤_}
 use Rattle.base.specs.Below.{all}

@@ -1,3 +1,4 @@
+-- `checks::marks_fit`. The invariant: ok says whether the recorded marks below i are at most N.
 use mathlib.Core.Path.{_≡_, ap, _∙_}
 use Prim.Native.Nat.{_-_, _≤_}
 use lib.Dec.{leb}

@@ -1,3 +1,4 @@
+-- `checks::phase_at`: the test whether there is such a server is the definition's (`guards`).
 use Rattle.base.proofs.Tests.{guards}
 use Rattle.checks.specs.Verdicts.{phaseAt}
 use borrow.Author.Needs.{needs}

@@ -1,3 +1,4 @@
+-- `checks::server_fits`: what `both` joins, entries, recorded marks and three more, is the definition's conjunction in its order.
 use Rattle.cluster.specs.Refusals.{serverFits}
 use Rattle.checks.specs.Verdicts.{belowFits}
 use borrow.Author.Needs.{needs}

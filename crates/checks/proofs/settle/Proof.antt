@@ -1,3 +1,4 @@
+-- `checks::settle`: `put_server` ensures the records; answer and bytes are the definition's.
 use borrow.Author.Needs.{needs}
 use Rattle.checks.proofs.settle.Statement.{statement}
 use Rattle.checks.proofs.settle.Tie as tie

@@ -1,4 +1,4 @@
--- `crc32::check` meets its contract, by what its two callees ensure.
+-- `crc32::check`: the numbers compared are the CRC of the first k bytes and the four bytes behind them, as the definition has it.
 -- Assumes nothing.
 use mathlib.Core.Path.{ap, ap₂, _∙_}
 use lib.Dec.{eqb}

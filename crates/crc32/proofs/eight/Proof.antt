@@ -1,4 +1,4 @@
--- Eight bytes as two fours, by one law.
+-- `crc32::eight`: eight bytes as two fours, by one law (`eight-in`).
 -- Assumes nothing.
 use mathlib.Core.Path.{sym, ap, ap₂, _∙_}
 use Prim.Native.Nat.{ℕ}

@@ -1,4 +1,4 @@
--- Four bytes at once, by one law.
+-- `crc32::four`: four bytes at once, by one law (`four-in`).
 -- Assumes nothing.
 use mathlib.Core.Path.{sym, ap, _∙_}
 use Prim.Native.Nat.{ℕ}

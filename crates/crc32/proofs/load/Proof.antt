@@ -1,4 +1,4 @@
--- The loop's invariant: the number of the bytes from the j-th one on.
+-- `crc32::load`. The invariant: v is the number of the bytes from the j-th one on.
 -- Assumes nothing.
 use mathlib.Core.Path.{_≡_, sym, ap, _∙_}
 use Prim.Native.Nat.{ℕ, _≤_, _+_, _-_, _*_}

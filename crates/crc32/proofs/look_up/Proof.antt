@@ -1,4 +1,4 @@
--- The loop's invariant: the look-ups made, with those still to make, are all; what is left of x has as many bytes as there are turns left.
+-- `crc32::look_up`. The invariant: look-ups made and still to make are all; what is left of x has a byte for each turn left.
 -- Assumes nothing.
 use mathlib.Core.Path.{_≡_, refl, sym, ap, _∙_}
 use Prim.Native.Nat.{ℕ, _+_, _-_, _^_, _≤_, _<_}

@@ -1,4 +1,4 @@
--- `crc32::seal` meets its contract, by what its two callees ensure.
+-- `crc32::seal`: `put_be` writes what `crc` ensures of the first k bytes.
 -- Assumes nothing.
 use lib.ListN.{length-take}
 use native.Mathlib.Omega.{arith}

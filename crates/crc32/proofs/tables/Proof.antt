@@ -1,4 +1,4 @@
--- The constant is the tables: antt computes each row by doubling.
+-- `crc32::tables`: the constant is the tables, since antt computes each row by doubling.
 -- Assumes nothing.
 use mathlib.Core.Path.{refl}
 use Rattle.crc32.specs.Crc32.{bitStep, bitSteps}

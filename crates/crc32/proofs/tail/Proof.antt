@@ -1,4 +1,4 @@
--- The four bytes come in before those behind them.
+-- `crc32::tail`: if there are four bytes, they come in before those behind them (`part-in`).
 -- Assumes nothing.
 use mathlib.Core.Path.{sym, ap, _∙_}
 use Prim.Native.Nat.{ℕ, _+_}

@@ -1,3 +1,4 @@
+-- `fate::effect`, fate by fate; of a cut by the definition's two tests of k against w.
 use borrow.Author.Tests.{eq-eqb, ne-eqb, lt-ltb, le-ltb}
 use Rattle.fate.specs.Numbered.{effectOf}
 use native.Mathlib.Omega.{arith}

@@ -1,3 +1,4 @@
+-- `octets::get_be`. The invariant: v and the bytes from i on behind it give the number, and v has at most i bytes, so it fits 64 bits.
 use mathlib.Core.Path.{_≡_, refl, sym, ap, _∙_}
 use Prim.Native.Nat.{ℕ, _≤_, _<_, _-_, _+_, _^_}
 use lib.ListN.{length, take, drop, getD, set, replicate, length-set, length-replicate, getD-replicate}

@@ -1,3 +1,4 @@
+-- `octets::put`: the part that `copy` filled, once it comes back, is a write (`mid-write`).
 use mathlib.Core.Path.{refl}
 use Prim.Native.Nat.{_+_}
 use lib.ListN.{length}

@@ -1,3 +1,4 @@
+-- `octets::put_be`: the part that `set_be` filled has k bytes and, once it comes back, is a write (`mid-write`).
 use mathlib.Core.Path.{_≡_, ap, _∙_}
 use Prim.Native.Nat.{ℕ, _+_, _-_}
 use native.Mathlib.Nat.{add-sub-cancel-left}

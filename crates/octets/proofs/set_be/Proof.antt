@@ -1,3 +1,4 @@
+-- `octets::set_be`. The invariant: the i low bytes of x, then the bytes from i on, are all the bytes of v.
 use mathlib.Core.Path.{_≡_, refl, sym, ap, _∙_}
 use Prim.Native.Nat.{ℕ, _≤_, _<_, _-_, _+_, _^_}
 use lib.ListN.{length, take, drop, getD, set, replicate, length-set, length-replicate, getD-replicate}

@@ -1,3 +1,4 @@
+-- `replica::answer`: it declines (`declining`), or performs; then it is answered, with the mark that is known, or silent (`performing`).
 use mathlib.Core.Path.{_≡_, sym, ap, _∙_}
 use mathlib.Core.Bool.{true, false}
 use Prim.Native.Nat.{ℕ}

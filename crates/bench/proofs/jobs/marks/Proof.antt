@@ -1,4 +1,4 @@
--- The invariant: what is lent keeps its length.
+-- `jobs::marks`. The invariant: the media keep their length. The measure is the number of turns left.
 -- Assumes nothing.
 use mathlib.Core.Path.{_≡_}
 use lib.ListN.{length}

@@ -1,4 +1,4 @@
--- The invariant: what is lent keeps its length.
+-- `stage::prepared`. The invariant: media and lock tables keep their lengths. The measure is the number of replicas left to prepare.
 -- Assumes nothing.
 use mathlib.Core.Path.{_≡_}
 use Prim.Native.Nat.{_-_}

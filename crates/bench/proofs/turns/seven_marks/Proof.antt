@@ -1,4 +1,4 @@
--- The invariant: what is behind and what is left are seven media.
+-- `turns::seven_marks`. The invariant: what is behind and what is left are seven media.
 -- Assumes nothing.
 use mathlib.Core.Path.{_≡_}
 use Prim.Native.Nat.{_+_, _*_}

@@ -1,3 +1,4 @@
+-- `vote::vote_among`: the flags made agree with the replicas that vote below r, so `vote_of` gives the same vote (`vote-same`).
 use native.Mathlib.Omega.{arith}
 use mathlib.Core.Path.{refl, _∙_}
 use mathlib.Core.Bool.{false}

@@ -1,3 +1,4 @@
+-- `apply::apply`, call by call: each call's own contract, and what lies beside a call that does not read it changes nothing (`applied`).
 use Rattle.checks.specs.Results.{stateOf}
 use Rattle.journal.proofs.Beside.{applied}
 use borrow.Author.Needs.{needs}

@@ -1,4 +1,4 @@
--- `forms::from_copy`.
+-- `forms::from_copy`: the word copy and five fields make it this form (`here`), else it is what `from_open` says (`onward`).
 -- Assumes nothing.
 use Rattle.lines.specs.Words.{copyWord}
 use Rattle.lines.specs.Forms.{fromCopy}

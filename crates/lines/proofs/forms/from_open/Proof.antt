@@ -1,4 +1,4 @@
--- `forms::from_open`.
+-- `forms::from_open`: the word open and three fields make it this form, by its values; else it is what `from_send` says.
 -- Assumes nothing.
 use Rattle.cluster.specs.declared.Call.the-variants as call
 use Rattle.lines.specs.Words.{openWord}

@@ -1,4 +1,4 @@
--- `forms::from_prepare`.
+-- `forms::from_prepare`: the word prep and four fields make it this form, by its values; else it is what `from_copy` says.
 -- Assumes nothing.
 use Rattle.cluster.specs.declared.Call.the-variants as call
 use Rattle.lines.specs.Words.{prepWord}

@@ -1,4 +1,4 @@
--- `forms::from_send`.
+-- `forms::from_send`: the word send and four fields make it this form, by its values; else, as the last link, it is bad.
 -- Assumes nothing.
 use mathlib.Core.Path.{refl}
 use Rattle.cluster.specs.declared.Call.the-variants as call

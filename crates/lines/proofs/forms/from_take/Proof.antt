@@ -1,4 +1,4 @@
--- `forms::from_take`.
+-- `forms::from_take`: the word take and three fields make it this form, by its values; else it is what `from_prepare` says.
 -- Assumes nothing.
 use Rattle.cluster.specs.declared.Call.the-variants as call
 use Rattle.lines.specs.Words.{takeWord}

@@ -1,4 +1,4 @@
--- `forms::is`.
+-- `forms::is`, by what `check::same` answers, which is whether the two texts are the same (`same-is`).
 -- Assumes nothing.
 use borrow.Author.Tests.{not-true, not-false}
 use Rattle.lines.proofs.Same.{same-is}

@@ -1,4 +1,4 @@
--- `forms::plain`.
+-- `forms::plain`: the word cluster and three fields make it this form (`here`), else it is what `from_take` says (`onward`).
 -- Assumes nothing.
 use Rattle.lines.specs.Words.{clusterWord}
 use Rattle.lines.specs.Forms.{plainForm}

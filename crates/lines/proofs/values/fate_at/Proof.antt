@@ -1,4 +1,4 @@
--- `values::fate_at`.
+-- `values::fate_at`: `fate_of` of the number that `number_at` ensures.
 -- Assumes nothing.
 use mathlib.Core.Path.{ap, _∙_}
 use Rattle.lines.specs.Values.{fateOf}

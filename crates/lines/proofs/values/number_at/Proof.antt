@@ -1,4 +1,4 @@
--- `values::number_at`.
+-- `values::number_at`: `decimal` of the field that `line::field` ensures.
 -- Assumes nothing.
 use mathlib.Core.Path.{ap, _∙_}
 use Rattle.text.specs.Text.{numberOf}

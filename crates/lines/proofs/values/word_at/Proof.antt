@@ -1,4 +1,4 @@
--- `values::word_at`.
+-- `values::word_at`: `decimal32` of the field that `line::field` ensures.
 -- Assumes nothing.
 use mathlib.Core.Path.{ap, _∙_}
 use mathlib.Core.List.{List}

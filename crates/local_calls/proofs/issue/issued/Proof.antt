@@ -1,3 +1,4 @@
+-- `issue::issued`: `record_of` ensures the bytes that the server then holds; the other fields are set as in the definition.
 use borrow.Author.Needs.{needs}
 use Rattle.local_calls.proofs.issue.issued.Statement.{statement}
 use Rattle.local_calls.proofs.issue.issued.Tie as tie

@@ -1,3 +1,4 @@
+-- `issue::mark`: the part lent to `mark_all` is server i's table, and what comes back is that table written in place (`table-marked`).
 use Rattle.local_calls.proofs.Issuing.{table-marked}
 use native.Mathlib.Omega.{arith}
 use borrow.Author.Needs.{needs}

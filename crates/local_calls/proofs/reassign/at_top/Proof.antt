@@ -1,3 +1,4 @@
+-- `reassign::at_top`: a generation is 2^32 - 1 exactly when one more is 2^32 (`top-is`).
 use mathlib.Core.Path.{refl}
 use Prim.Native.Nat.{_^_}
 use Rattle.base.proofs.Tops.{top-is}

@@ -1,3 +1,4 @@
+-- `reassign::raised`: a generation that is not at its top has room for one more; the rest of the register is kept.
 use Prim.Native.Nat.{_+_, _^_}
 use borrow.Author.Tests.{eqb-false}
 use native.Mathlib.Omega.{arith}

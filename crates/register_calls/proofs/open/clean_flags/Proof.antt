@@ -1,4 +1,4 @@
--- The loop's invariant: what is made so far.
+-- `open::clean_flags`. The invariant: the flags below i say which replicas are clean, and the others are false.
 -- Assumes nothing.
 use mathlib.Core.Path.{_≡_, ap, _∙_}
 use Prim.Native.Nat.{_-_, _≤_}

@@ -1,3 +1,4 @@
+-- `open::count_ballot`: an undecided vote has nothing else to show; a decided one has its mark, its clean flags and their count.
 use mathlib.Core.Bool.{false≢true}
 use Rattle.register_calls.proofs.Opened.{not-decided, is-decided, clean-is, clean-count}
 use borrow.Author.Needs.{needs}

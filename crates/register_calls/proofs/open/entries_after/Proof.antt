@@ -1,4 +1,4 @@
--- The loop's invariant: what is made so far.
+-- `open::entries_after`. The invariant: the entries below i are those after open, and the others are as they were.
 -- Assumes nothing.
 use mathlib.Core.Path.{_≡_, ap, _∙_}
 use Prim.Native.Nat.{_-_, _≤_}

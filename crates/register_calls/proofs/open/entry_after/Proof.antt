@@ -1,3 +1,4 @@
+-- `open::entry_after`, by the definition's cases: a clean replica, an unresolved entry, an entry with a closing mark.
 use borrow.Author.Needs.{needs}
 use Rattle.register_calls.proofs.open.entry_after.Statement.{statement}
 use Rattle.register_calls.proofs.open.entry_after.Tie as tie

@@ -1,3 +1,4 @@
+-- `open::fill`, by whether the message is answered: then the part that comes back filled is server i's table (`mid-write`).
 use mathlib.Core.Path.{sym, ap, _∙_}
 use Prim.Native.Nat.{ℕ, _+_, _*_}
 use lib.ListN.{replicate, length-replicate}

@@ -1,3 +1,4 @@
+-- `open::judge`: four tests, each behind the one before, are the rows 6, 8, 9 and 22 (`chained`).
 use Rattle.checks.proofs.Behind.{chained}
 use borrow.Author.Needs.{needs}
 use Rattle.register_calls.proofs.open.judge.Statement.{statement}

@@ -1,4 +1,4 @@
--- The loop's invariant: what is made so far.
+-- `open::marks_after`. The invariant: the marks below i are d where the flag is set and 0 elsewhere, and the others are 0.
 -- Assumes nothing.
 use mathlib.Core.Path.{_≡_, ap, _∙_}
 use Prim.Native.Nat.{_-_, _≤_}

@@ -1,3 +1,4 @@
+-- `open::open`: refused at admission, refused by `judge`, or `opened`; the ballot's 8 and 9 are the definition's rows (`ballot-rows`).
 use mathlib.Core.Path.{refl, _∙_}
 use mathlib.Core.List.{[], _++_}
 use borrow.Author.Tests.{not-false}

@@ -1,3 +1,4 @@
+-- `open::opened`, by whether the message is answered: the server is opened or idle, and the register is what `register_after` ensures.
 use mathlib.Core.Path.{sym, _∙_}
 use Rattle.cluster.specs.Effects.{openEffect}
 use borrow.Author.Needs.{needs}

@@ -1,3 +1,4 @@
+-- `open::opened_server`: the flags are those of the clean replicas, so the marks made by them are the definition's (`marks-are`).
 use mathlib.Core.Path.{_∙_}
 use Rattle.cluster.specs.Effects.{openedServer}
 use Rattle.register_calls.proofs.Opened.{marks-are}

@@ -1,3 +1,4 @@
+-- `open::register_after`: without arrival or with another session it stays; else the entries are the definition's (`entries-are`).
 use mathlib.Core.Path.{sym, _∙_}
 use borrow.Author.Tests.{not-true, not-false, eq-eqb, ne-eqb}
 use Rattle.cluster.specs.Effects.{openedRegister}

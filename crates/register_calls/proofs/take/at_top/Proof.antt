@@ -1,3 +1,4 @@
+-- `take::at_top`: a session is 2^64 - 1 exactly when one more is 2^64 (`top-is`).
 use mathlib.Core.Path.{refl}
 use Prim.Native.Nat.{_^_}
 use Rattle.base.proofs.Tops.{top-is}

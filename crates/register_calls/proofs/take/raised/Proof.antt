@@ -1,3 +1,4 @@
+-- `take::raised`, by whether the message arrives and whether the session is at its top; below the top there is room for one more.
 use mathlib.Core.Path.{sym, _∙_}
 use Prim.Native.Nat.{_+_, _^_}
 use borrow.Author.Tests.{eqb-false, not-true, not-false}

@@ -1,3 +1,4 @@
+-- `take::take`: 6 and 21 behind the admission's rows are the whole list (`behind`); once it passes, `taken` ensures the effect.
 use mathlib.Core.Path.{_≡_, refl}
 use mathlib.Core.List.{[], _∷_, _++_}
 use Rattle.cluster.specs.Refusals.{isCut, sessionAtTop, row, seen, onlyIdle, phaseRows, checksOf, firstOf}

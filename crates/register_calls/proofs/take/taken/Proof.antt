@@ -1,3 +1,4 @@
+-- `take::taken`, by whether the message is answered: the server is opening or idle, and the register is what `raised` ensures.
 use mathlib.Core.Path.{sym, _∙_}
 use Rattle.cluster.specs.Effects.{takeEffect}
 use borrow.Author.Needs.{needs}

@@ -1,3 +1,4 @@
+-- `calls::message`: refused at admission, or `served`; an admission that passed names a server and a replica (`admits`, `named`).
 use native.Mathlib.Omega.{arith}
 use mathlib.Core.Path.{refl, sym, _∙_}
 use borrow.Author.Tests.{leb-false}

@@ -1,3 +1,4 @@
+-- `calls::note`: what `message` ensures of the kind Note, whose call is this one.
 use borrow.Author.Needs.{needs}
 use Rattle.replica_calls.proofs.calls.note.Statement.{statement}
 use Rattle.replica_calls.proofs.calls.note.Tie as tie

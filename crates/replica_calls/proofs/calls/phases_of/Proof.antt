@@ -1,3 +1,4 @@
+-- `calls::phases_of`, kind by kind: prepare and trim while opening, note and send while open.
 use borrow.Author.Needs.{needs}
 use Rattle.replica_calls.proofs.calls.phases_of.Statement.{statement}
 use Rattle.replica_calls.proofs.calls.phases_of.Tie as tie

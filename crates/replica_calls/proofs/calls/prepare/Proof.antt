@@ -1,3 +1,4 @@
+-- `calls::prepare`: what `message` ensures of the kind Prepare, whose call is this one.
 use borrow.Author.Needs.{needs}
 use Rattle.replica_calls.proofs.calls.prepare.Statement.{statement}
 use Rattle.replica_calls.proofs.calls.prepare.Tie as tie

@@ -1,3 +1,4 @@
+-- `calls::send`: what `message` ensures of the kind Send, whose call is this one.
 use borrow.Author.Needs.{needs}
 use Rattle.replica_calls.proofs.calls.send.Statement.{statement}
 use Rattle.replica_calls.proofs.calls.send.Tie as tie

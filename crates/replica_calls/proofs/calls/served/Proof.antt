@@ -1,3 +1,4 @@
+-- `calls::served`, by its plan: refused, the server stays; else the operation fits the medium (`fits-kind`) and is delivered.
 use Rattle.replica_calls.proofs.ByKind.{plan-refuses, plan-does, fits-kind}
 use borrow.Author.Needs.{needs}
 use Rattle.replica_calls.proofs.calls.served.Statement.{statement}

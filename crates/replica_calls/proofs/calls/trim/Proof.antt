@@ -1,3 +1,4 @@
+-- `calls::trim`: what `message` ensures of the kind Trim, whose call is this one.
 use borrow.Author.Needs.{needs}
 use Rattle.replica_calls.proofs.calls.trim.Statement.{statement}
 use Rattle.replica_calls.proofs.calls.trim.Tie as tie

@@ -1,3 +1,4 @@
+-- `copy::check_copy`: four tests, each behind the one before, are the rows 6, 7, 16 and 17 (`chained`).
 use mathlib.Core.List.{[], _∷_}
 use Rattle.checks.proofs.Behind.{chained}
 use borrow.Author.Needs.{needs}

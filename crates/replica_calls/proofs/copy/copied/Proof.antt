@@ -1,3 +1,4 @@
+-- `copy::copied`: refused by `check_copy`, or an append delivered; a passed 16 says that there is a place for it (`copy-room`).
 use native.Mathlib.Omega.{arith}
 use mathlib.Core.Path.{refl}
 use Rattle.cluster.specs.State.{markAt}

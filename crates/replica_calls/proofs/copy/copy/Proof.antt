@@ -1,3 +1,4 @@
+-- `copy::copy`: refused at admission, or `copied`; a passed 4 names two replicas, each with its medium (`both-named`).
 use native.Mathlib.Omega.{arith}
 use mathlib.Core.Path.{refl, sym, _∙_}
 use Rattle.cluster.specs.Refusals.{notTwo, openingOrOpen, replicaRows}

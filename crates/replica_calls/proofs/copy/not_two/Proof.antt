@@ -1,3 +1,4 @@
+-- `copy::not_two`: the two calls of `either` are the definition's two `||`.
 use borrow.Author.Needs.{needs}
 use Rattle.replica_calls.proofs.copy.not_two.Statement.{statement}
 use Rattle.replica_calls.proofs.copy.not_two.Tie as tie

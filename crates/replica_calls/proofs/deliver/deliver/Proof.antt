@@ -1,3 +1,4 @@
+-- `deliver::deliver`: the part lent is replica i's medium; what comes back and what `hear` makes of it are the message (`delivered`).
 use Rattle.replica_calls.proofs.Hearing.{lent-size, delivered}
 use borrow.Author.Needs.{needs}
 use Rattle.replica_calls.proofs.deliver.deliver.Statement.{statement}

@@ -1,3 +1,4 @@
+-- `deliver::span_of`: N up to 1,000 and i below 7 keep the product and the sum within 64 bits (`span-fits`).
 use native.Mathlib.Omega.{arith}
 use mathlib.Core.Path.{refl}
 use Rattle.replica_calls.proofs.Known.{span-fits}

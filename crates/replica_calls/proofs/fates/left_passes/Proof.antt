@@ -1,3 +1,4 @@
+-- `fates::left_passes`, by what is left: only a torn write leaves given bytes, and `given_pass` judges these.
 use borrow.Author.Needs.{needs}
 use Rattle.replica_calls.proofs.fates.left_passes.Statement.{statement}
 use Rattle.replica_calls.proofs.fates.left_passes.Tie as tie

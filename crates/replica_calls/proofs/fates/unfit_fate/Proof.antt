@@ -1,3 +1,4 @@
+-- `fates::unfit_fate`, fate by fate: only a cut can be unfit, at write 0 or by what it leaves.
 use borrow.Author.Tests.{ne-eqb}
 use borrow.Author.Needs.{needs}
 use Rattle.replica_calls.proofs.fates.unfit_fate.Statement.{statement}

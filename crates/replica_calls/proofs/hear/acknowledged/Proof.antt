@@ -1,3 +1,4 @@
+-- `hear::acknowledged`: `majority` ensures the acknowledged mark, the one field that is set.
 use borrow.Author.Needs.{needs}
 use Rattle.replica_calls.proofs.hear.acknowledged.Statement.{statement}
 use Rattle.replica_calls.proofs.hear.acknowledged.Tie as tie

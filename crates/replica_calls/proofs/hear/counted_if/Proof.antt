@@ -1,3 +1,4 @@
+-- `hear::counted_if`: the two tests are the definition's `&&`; `acknowledged` counts if both hold, else the server stays.
 use mathlib.Core.Path.{sym, _∙_}
 use borrow.Author.Needs.{needs}
 use Rattle.replica_calls.proofs.hear.counted_if.Statement.{statement}

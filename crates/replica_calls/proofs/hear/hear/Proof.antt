@@ -1,3 +1,4 @@
+-- `hear::hear`: a mark is taken as an answer; anything else, by its tag, is what `no_mark` makes of it (`not-heard`).
 use Rattle.replica_calls.specs.Hearing.{onHeard}
 use Rattle.replica_calls.proofs.Hearing.{not-heard}
 use borrow.Author.Needs.{needs}

@@ -1,3 +1,4 @@
+-- `hear::no_mark`: a decline leaves the server; anything else, by its tag, gives the silent record (`not-declined`).
 use Rattle.replica_calls.specs.Hearing.{onHeard}
 use Rattle.replica_calls.proofs.Hearing.{not-declined}
 use borrow.Author.Needs.{needs}

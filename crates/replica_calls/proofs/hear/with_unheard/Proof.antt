@@ -1,3 +1,4 @@
+-- `hear::with_unheard`, phase by phase: idle and opening forget the replica, open drops it with its mark.
 use borrow.Author.Needs.{needs}
 use Rattle.replica_calls.proofs.hear.with_unheard.Statement.{statement}
 use Rattle.replica_calls.proofs.hear.with_unheard.Tie as tie

@@ -1,3 +1,4 @@
+-- `plan::check_message`: two tests, one behind the other, are the rows 6 and 7 (`chained`).
 use Rattle.checks.proofs.Behind.{chained}
 use borrow.Author.Needs.{needs}
 use Rattle.replica_calls.proofs.plan.check_message.Statement.{statement}

@@ -1,3 +1,4 @@
+-- `plan::is_active`: whether the replica is known decides whether `dropped` is looked at, as in the definition's `&&`.
 use borrow.Author.Needs.{needs}
 use Rattle.replica_calls.proofs.plan.is_active.Statement.{statement}
 use Rattle.replica_calls.proofs.plan.is_active.Tie as tie

@@ -1,3 +1,4 @@
+-- `plan::plan_note`: `check_message` has all its rows, and the operation is the definition's as it stands (`as-planned`).
 use mathlib.Core.Path.{refl}
 use Rattle.replica_calls.proofs.Planning.{as-planned}
 use borrow.Author.Needs.{needs}

@@ -1,3 +1,4 @@
+-- `plan::plan_of`, kind by kind: rows and operation of that kind are what its own plan ensures.
 use borrow.Author.Needs.{needs}
 use Rattle.replica_calls.proofs.plan.plan_of.Statement.{statement}
 use Rattle.replica_calls.proofs.plan.plan_of.Tie as tie

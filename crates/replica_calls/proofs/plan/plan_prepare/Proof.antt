@@ -1,3 +1,4 @@
+-- `plan::plan_prepare`: 6 is its only row, and `target_of` ensures the target of the operation.
 use mathlib.Core.Path.{_∙_}
 use Rattle.checks.proofs.Behind.{chained}
 use Rattle.replica_calls.proofs.Planning.{as-planned}

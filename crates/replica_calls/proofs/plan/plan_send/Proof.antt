@@ -1,3 +1,4 @@
+-- `plan::plan_send`: 16 behind `check_message`'s rows (`behind`); the operation is the definition's as it stands.
 use mathlib.Core.Path.{refl}
 use mathlib.Core.List.{[], _∷_}
 use Rattle.checks.proofs.Behind.{behind}

@@ -1,3 +1,4 @@
+-- `plan::plan_trim`: 16 and the mark to trim to need only be right of a decided vote (`trim-checked`, `if-done`).
 use mathlib.Core.Path.{_∙_}
 use Rattle.replica_calls.proofs.Planning.{if-done, undecided-is, trim-checked, trims}
 use borrow.Author.Needs.{needs}

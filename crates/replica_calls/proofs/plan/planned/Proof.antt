@@ -1,3 +1,4 @@
+-- `plan::planned`, by the check: a passed one does the operation, and a plan that refuses does none.
 use native.Mathlib.Omega.{arith}
 use mathlib.Core.Path.{_≡_, refl}
 use Prim.Native.Nat.{ℕ}

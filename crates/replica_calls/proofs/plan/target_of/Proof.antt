@@ -1,3 +1,4 @@
+-- `plan::target_of`, by the entry: unresolved gives the whole log, a closing mark gives that mark.
 use borrow.Author.Needs.{needs}
 use Rattle.replica_calls.proofs.plan.target_of.Statement.{statement}
 use Rattle.replica_calls.proofs.plan.target_of.Tie as tie

@@ -1,3 +1,4 @@
+-- `read::check_read`: the test for 16 behind `check_message`'s rows, 6 and 7 (`behind`).
 use mathlib.Core.List.{[], _∷_}
 use Rattle.checks.proofs.Behind.{behind}
 use borrow.Author.Needs.{needs}

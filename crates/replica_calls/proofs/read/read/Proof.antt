@@ -1,3 +1,4 @@
+-- `read::read`: refused at admission, or `read_admitted`; an admission that passed names a server and a replica (`admits`, `named`).
 use mathlib.Core.Path.{refl, sym, _∙_}
 use borrow.Author.Tests.{leb-false}
 use Rattle.cluster.specs.Refusals.{noReplicaAt, onlyOpen, replicaRows}

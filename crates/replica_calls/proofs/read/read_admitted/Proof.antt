@@ -1,3 +1,4 @@
+-- `read::read_admitted`: refused by `check_read`, or sent; a passed 16 says that the ID is one of the places (`readable`).
 use native.Mathlib.Omega.{arith}
 use Rattle.cluster.specs.State.{serverAt}
 use Rattle.cluster.specs.Refusals.{readRows}

@@ -1,3 +1,4 @@
+-- `read::read_sent`: the part lent is replica i's medium, so what is heard and the place read are the message's result (`read-heard`).
 use native.Mathlib.Omega.{arith}
 use Rattle.replica_calls.proofs.Hearing.{lent-size, read-heard}
 use borrow.Author.Needs.{needs}

@@ -1,3 +1,4 @@
+-- `medium::mark_from`. The invariant: n and the run of valid places behind place n make the mark, and a is where that run begins.
 use mathlib.Core.Path.{_≡_, refl, sym, ap, _∙_}
 use Prim.Native.Nat.{_+_, _-_, _*_, _≤_}
 use borrow.Author.Tests.{not-true, not-false}

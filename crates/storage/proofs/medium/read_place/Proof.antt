@@ -1,3 +1,4 @@
+-- `medium::read_place`: the part copied is place n, by its offset and its size (`between-part`).
 use mathlib.Core.Path.{_∙_}
 use Rattle.octets.proofs.Laws.{between-part}
 use Rattle.storage.specs.Sizes.{placeOffset, placeSize}

@@ -1,3 +1,4 @@
+-- `medium::truncate`. The invariant: the wipes from place n down, numbered from j on, give the result; j + n stays the same.
 use mathlib.Core.Path.{_≡_, refl, sym, ap, _∙_}
 use Prim.Native.Nat.{_+_, _-_, _≤_}
 use lib.ListN.{length}

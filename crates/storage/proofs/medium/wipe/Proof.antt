@@ -1,3 +1,4 @@
+-- `medium::wipe`: the array of zeros is the definition's wiped place, which `set_place` writes.
 use Rattle.storage.specs.Places.{wiped}
 use borrow.Author.Needs.{needs}
 use Rattle.storage.proofs.medium.wipe.Statement.{statement}

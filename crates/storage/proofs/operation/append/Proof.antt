@@ -1,3 +1,4 @@
+-- `operation::append`: write 1, into the place behind n, is the whole list (`appended`).
 use Rattle.storage.proofs.Writing.{appended}
 use borrow.Author.Needs.{needs}
 use Rattle.storage.proofs.operation.append.Statement.{statement}

@@ -1,3 +1,4 @@
+-- `operation::close`, by the target: the whole log needs no write (`from-none`), a mark those that `truncate` ensures.
 use mathlib.Core.Path.{sym}
 use Rattle.fate.proofs.Laws.{from-none}
 use Rattle.storage.specs.Operations.{closing}

@@ -1,3 +1,4 @@
+-- `operation::closed_mark`, by the target: the whole log keeps its mark, any other target gives the lesser of the two.
 use borrow.Author.Needs.{needs}
 use Rattle.storage.proofs.operation.closed_mark.Statement.{statement}
 use Rattle.storage.proofs.operation.closed_mark.Tie as tie

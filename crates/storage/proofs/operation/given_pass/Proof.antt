@@ -1,3 +1,4 @@
+-- `operation::given_pass`: given bytes pass as a slot, as no place, or as the one place that they name (GivenCases).
 use mathlib.Core.Path.{_≡_, sym, ap, _∙_}
 use mathlib.Core.Logic.{inl, inr}
 use Prim.Native.Nat.{ℕ}

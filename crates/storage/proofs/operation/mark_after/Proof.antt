@@ -1,3 +1,4 @@
+-- `operation::mark_after`, operation by operation: `MarkKnown` has the mark, or, of an append, where the scan may start.
 use mathlib.Core.Path.{sym, _∙_}
 use borrow.Author.Needs.{needs}
 use Rattle.storage.proofs.operation.mark_after.Statement.{statement}

@@ -1,3 +1,4 @@
+-- `operation::note`: the slot read is the current one, so the one slot write keeps its promise (`noted`).
 use Rattle.storage.proofs.Writing.{noted}
 use borrow.Author.Needs.{needs}
 use Rattle.storage.proofs.operation.note.Statement.{statement}

@@ -1,3 +1,4 @@
+-- `operation::perform`, operation by operation, each by its own contract; `HasPlace` is what an append requires.
 use borrow.Author.Needs.{needs}
 use Rattle.storage.proofs.operation.perform.Statement.{statement}
 use Rattle.storage.proofs.operation.perform.Tie as tie

@@ -1,3 +1,4 @@
+-- `operation::prepare`: the writes of `close` are numbered on from those of `renew`, and the two lists are one (`prepared`).
 use Rattle.storage.proofs.Scan.{mark-le}
 use Rattle.storage.proofs.Writing.{promising-le, prepared}
 use native.Mathlib.Omega.{arith}

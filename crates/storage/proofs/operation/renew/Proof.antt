@@ -1,3 +1,4 @@
+-- `operation::renew`: an equal promise makes no write, another one makes one (`not-promised`, `promised`).
 use mathlib.Core.Path.{refl, sym, _∙_}
 use Rattle.fate.proofs.Laws.{from-none, from-one}
 use Rattle.storage.proofs.Writing.{promised, not-promised}

@@ -1,3 +1,4 @@
+-- `operation::trim`: the mark read is the log's, so the wipes from write 1 on are the definition's (`trimmed`).
 use Rattle.storage.proofs.Scan.{mark-le}
 use Rattle.storage.proofs.Writing.{trimmed}
 use native.Mathlib.Omega.{arith}

@@ -1,3 +1,4 @@
+-- `place::data_length`: the number at the length's offset is the definition's `sizeOf`.
 use Rattle.storage.specs.Places.{sizeOf}
 use borrow.Author.Needs.{needs}
 use Rattle.storage.proofs.place.data_length.Statement.{statement}

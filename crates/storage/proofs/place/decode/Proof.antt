@@ -1,3 +1,4 @@
+-- `place::decode`: the ID and five numbers, each read at its offset, are the definition's fields (`cc`).
 use Rattle.storage.specs.Places.{fieldsIn, idOf}
 use borrow.Author.Needs.{needs}
 use Rattle.storage.proofs.place.decode.Statement.{statement}

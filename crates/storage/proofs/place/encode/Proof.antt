@@ -1,3 +1,4 @@
+-- `place::encode`: the three writes are the head (`head-written`), and the head with its CRC behind it is the record (`seal-all`).
 use mathlib.Core.Path.{_≡_, refl, sym, ap, ap₂, _∙_}
 use mathlib.Core.List.{List, [], _∷_, _++_}
 use Prim.Native.Nat.{ℕ, _+_, _-_, _≤_, zero-le}

@@ -1,3 +1,4 @@
+-- `place::fill`: the data, and the cleared part behind them, are one write of the padded data (`fill-written`).
 use mathlib.Core.Path.{_≡_, refl, sym, ap, ap₂, _∙_}
 use mathlib.Core.List.{List, [], _∷_, _++_}
 use Prim.Native.Nat.{ℕ, _+_, _-_, _≤_, zero-le}

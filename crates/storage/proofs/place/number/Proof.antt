@@ -1,3 +1,4 @@
+-- `place::number`: the part read is four bytes long, so that its number has 32 bits (`length-between`, `between-part`).
 use mathlib.Core.Path.{_≡_, ap, _∙_}
 use Prim.Native.Nat.{_+_, _-_}
 use Rattle.octets.specs.Octets.{beOf}

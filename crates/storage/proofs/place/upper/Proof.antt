@@ -1,3 +1,4 @@
+-- `place::upper`: three numbers from the fifth field on, each written behind the one before, are one write (`next-field`).
 use mathlib.Core.Path.{_≡_, refl, sym, ap, ap₂, _∙_}
 use mathlib.Core.List.{List, [], _∷_, _++_}
 use Prim.Native.Nat.{ℕ, _+_, _-_, _≤_, zero-le}

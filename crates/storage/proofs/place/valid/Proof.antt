@@ -1,3 +1,4 @@
+-- `place::valid`: each return is one of the cases of a place's validity, in the code's order (PlaceCases).
 use borrow.Author.Tests.{not-true, not-false}
 use mathlib.Core.Path.{_≡_, sym, ap, _∙_}
 use Prim.Native.Nat.{_≤_}

@@ -1,3 +1,4 @@
+-- `slot::choose`: each return knows which slots are valid and, of two valid ones, which is newer: the definition's tests.
 use mathlib.Core.Path.{_≡_, refl, sym, ap, ap₂, _∙_}
 use mathlib.Core.Bool.{true, false}
 use mathlib.Core.List.{List, [], _∷_, _++_}

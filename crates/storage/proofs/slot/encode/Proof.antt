@@ -1,3 +1,4 @@
+-- `slot::encode`: three numbers and the zeros behind them are the head, and the head with its CRC behind it is the slot (`seal-all`).
 use mathlib.Core.Path.{_≡_, refl, sym, ap, _∙_}
 use mathlib.Core.List.{List, [], _∷_}
 use Prim.Native.Nat.{ℕ, _+_, zero-le}

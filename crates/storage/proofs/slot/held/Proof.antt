@@ -1,3 +1,4 @@
+-- `slot::held`, by which slot is current: `read` of that part of the medium, or zeros if neither is.
 use mathlib.Core.Path.{_≡_, refl, sym, ap, ap₂, _∙_}
 use mathlib.Core.Bool.{true, false}
 use mathlib.Core.List.{List, [], _∷_, _++_}

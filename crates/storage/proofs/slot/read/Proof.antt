@@ -1,3 +1,4 @@
+-- `slot::read`: each field is the number at its offset, as `get_be` ensures it.
 use mathlib.Core.Path.{_≡_, refl, sym, ap, ap₂, _∙_}
 use mathlib.Core.Bool.{true, false}
 use mathlib.Core.List.{List, [], _∷_, _++_}

@@ -1,3 +1,4 @@
+-- `slot::supersedes`: the greater promise, then the greater low-water mark: the definition's tests, in its order.
 use mathlib.Core.Path.{_≡_, refl, sym, ap, ap₂, _∙_}
 use mathlib.Core.Bool.{true, false}
 use mathlib.Core.List.{List, [], _∷_, _++_}

@@ -1,3 +1,4 @@
+-- `slot::valid`: length, zeros and CRC are the cases of the layout's form, in the code's order (Layouts).
 use mathlib.Core.Path.{_≡_, sym, _∙_}
 use mathlib.Core.Bool.{true, false}
 use Prim.Native.Nat.{zero-le}

@@ -1,7 +1,7 @@
 -- The frame of every call: a part of its list that was checked, and the rest to come; and what the admission of a call leaves known.
 -- Assumes nothing.
 use mathlib.Core.Path.{_≡_, refl, sym, ap, _∙_}
-use mathlib.Core.Bool.{Bool, true, false, not, _&&_}
+use mathlib.Core.Bool.{true, false, not}
 use mathlib.Core.List.{List, [], _∷_, _++_}
 use Prim.Native.Nat.{ℕ, zero, suc, _+_, _*_, _≤_, _<_}
 use native.Mathlib.Nat.{mul-le-mul}
@@ -20,7 +20,7 @@ use Rattle.cluster.specs.declared.Server.{Server}
 use Rattle.cluster.specs.declared.Refusal.{Refusal}
 use Rattle.cluster.specs.declared.Outcome.{Outcome}
 use Rattle.cluster.specs.State.{State, serverAt, markAt}
-use Rattle.cluster.specs.Refusals.{entriesFit, serverFits, markAbove, wrongPhase, allows, Row, row, clusterRows, serverRows, Verdict, pass, declined, firstOf, andThen}
+use Rattle.cluster.specs.Refusals.{entriesFit, serverFits, markAbove, wrongPhase, allows, Row, row, serverRows, firstOf, andThen}
 use Rattle.cluster.specs.Effects.{Result}
 use Rattle.cluster.specs.Step.{unless, rest}
 use Rattle.cluster.proofs.Rows.{firstOf-append, conditionOf, passed}

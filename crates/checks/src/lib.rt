@@ -3,11 +3,10 @@
 pub mod vote;
 
 ghost use mathlib.Core.Path.{_≡_};
-ghost use mathlib.Core.Bool.{_&&_, _||_, not, cond, false};
+ghost use mathlib.Core.Bool.{_&&_, not, false};
 ghost use mathlib.Core.List.{List, [], _∷_};
 ghost use Prim.Native.Nat.{ℕ, _≤_, _<_};
 ghost use lib.ListN.{length, getD, replicate};
-ghost use lib.Dec.{ltb, leb};
 ghost use Rattle.base.specs.Below.{upTo};
 ghost use Rattle.cluster.specs.Refusals.{replicasFit, outside, closingFits, entriesFit, serverFits, markAbove, allows, clusterRows, serverRows, phaseRows, replicaRows, firstOf, andThen};
 ghost use Rattle.checks.specs.Results.{stateOf, declinedOf, silentOf, valueOf, doneOf, changed, unchanged};

@@ -1,7 +1,7 @@
 -- "Entries .. from R up are never read; those entries never change": the second half. No call changes an entry of the register from R up.
 -- The theorem is `kept`.
 -- Assumes nothing.
-use mathlib.Core.Path.{_≡_, refl, ap, _∙_}
+use mathlib.Core.Path.{_≡_, refl, _∙_}
 use mathlib.Core.Bool.{Bool, true, false, not, cond, _&&_}
 use mathlib.Core.List.{List}
 use Prim.Native.Nat.{ℕ, zero, suc, _≤_}
@@ -16,7 +16,7 @@ use Rattle.cluster.specs.declared.Call.{Call}
 use Rattle.cluster.specs.declared.Call.the-variants as call
 use Rattle.cluster.specs.State.{State, freshEntry, serverAt, entryAt}
 use Rattle.cluster.specs.Refusals.{Input, voteMark, cleanAt, sessionAtTop, sessionDiffers, rowsOf, Verdict, pass, declined, firstOf}
-use Rattle.cluster.specs.Effects.{Result, arrives, raisedSession, entryAfter, openedRegister, prepareEffect, trimEffect, noteEffect, readEffect, appendEffect, takeEffect, openEffect, issueEffect, stopEffect, reassignEffect}
+use Rattle.cluster.specs.Effects.{arrives, raisedSession, entryAfter, openedRegister, prepareEffect, trimEffect, noteEffect, readEffect, appendEffect, takeEffect, openEffect, issueEffect, stopEffect, reassignEffect}
 use Rattle.cluster.specs.Step.{effect, unless, step}
 
 -- ---- the statement

@@ -3,13 +3,12 @@
 -- the mark that every way gives. The statement comes first, then its proof; the theorems are `open-decides` and `trim-decides`.
 -- Assumes nothing.
 use mathlib.Core.Path.{_≡_, refl, sym, ap, _∙_}
-use mathlib.Core.Bool.{Bool, true, false, not, cond, _&&_, _||_, false≢true}
+use mathlib.Core.Bool.{Bool, true, false, not, cond, _||_, false≢true}
 use mathlib.Core.Logic.{_↔_, _⊎_, inl, inr, ⊎-elim}
 use mathlib.Core.List.{List, [], _∷_, _++_}
-use Prim.Native.Nat.{ℕ, _≤_, _<_}
+use Prim.Native.Nat.{ℕ, _<_}
 use native.Mathlib.Omega.{arith}
-use lib.Dec.{eqb, leb, ltb}
-use lib.ListN.{length}
+use lib.Dec.{eqb, leb}
 use borrow.Author.Tests.{not-false, eqb-true, eq-eqb, leb-true, ltb-false}
 use Rattle.base.specs.Below.{all}
 use Rattle.base.proofs.Below.{all-at}
@@ -22,7 +21,7 @@ use Rattle.cluster.specs.declared.Shape.{Shape}
 use Rattle.cluster.specs.declared.Server.{Server}
 use Rattle.cluster.specs.declared.Call.the-variants as call
 use Rattle.cluster.specs.State.{State, serverAt, markAt, votesAt}
-use Rattle.cluster.specs.Replies.{Reply, ok, no, silent}
+use Rattle.cluster.specs.Replies.{ok, no, silent}
 use Rattle.cluster.specs.Refusals.{Input, replicasFit, outside, entriesFit, serverFits, markAbove, noReplicaAt, onlyOpening, isCut, undecided, voteMark, tooFewClean, nothingToTrim, sessionDiffers, answered, seen, Row, row, phaseRows, replicaRows, messageRows, receivedAt, rowsOf, Verdict, pass, declined, firstOf, andThen}
 use Rattle.cluster.specs.Effects.{Result, trimEffect, openEffect}
 use Rattle.cluster.specs.Step.{effect, unless, rest, step}

@@ -3,7 +3,7 @@
 -- of apply `resultOf .. ≡ step shape state input` (crates/journal), for every input; `Run` is what they give of a list. The theorem is
 -- `runs`, of lists of any length.
 -- Assumes nothing.
-use mathlib.Core.Path.{_≡_, refl, sym, ap, _∙_}
+use mathlib.Core.Path.{_≡_, sym, ap, _∙_}
 use mathlib.Core.List.{List, [], _∷_}
 use Rattle.cluster.specs.declared.Shape.{Shape}
 use Rattle.cluster.specs.State.{State, fresh}

@@ -3,9 +3,7 @@
 use mathlib.Core.Path.{_≡_, refl, sym, ap, ap₂, _∙_}
 use mathlib.Core.List.{List, [], _∷_, _++_, append-assoc, append-nil}
 use Prim.Native.Nat.{ℕ, zero, suc, _+_, _-_, _*_, _/_, _%_, _^_, _<_, _≤_}
-use native.Mathlib.Nat.{pow-suc, div-add-mod', div-lt-iff-lt-mul, mod-lt, zero-lt-suc, add-assoc, add-zero, zero-add, add-suc, suc-add}
-use native.Mathlib.Omega.{arith}
-use lib.Dec.{lit<}
+use native.Mathlib.Nat.{pow-suc, div-add-mod', div-lt-iff-lt-mul, mod-lt, zero-lt-suc, add-zero, zero-add, add-suc, suc-add}
 use lib.Arith.{lt-one, digits-div, digits-mod}
 use lib.ListN.{length, length-append}
 use Rattle.octets.specs.Octets.{writeAt, beFrom, beOf, beBytes, fieldsOf, widthsOf, total, Bytes}

@@ -2,11 +2,10 @@
 -- Assumes nothing.
 use mathlib.Core.Path.{_≡_, ap, ap₂, _∙_}
 use mathlib.Core.Bool.{Bool, cond, _&&_}
-use Prim.Native.Nat.{ℕ, suc, _+_, _-_, _<_}
+use Prim.Native.Nat.{ℕ, suc, _+_, _-_}
 use lib.Dec.{leb, ltb}
-use Rattle.base.specs.Below.{count, highest}
+use Rattle.base.specs.Below.{count}
 use Rattle.base.proofs.Same.{Same, count-same, highest-same}
-use Rattle.quorum.specs.declared.Vote.{Vote}
 use Rattle.quorum.specs.declared.Vote.the-variants.{Undecided, Decided}
 use Rattle.quorum.specs.Vote.{quorum, reach, backed, majorityMark, decided, voteOf}
 

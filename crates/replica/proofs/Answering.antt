@@ -1,7 +1,7 @@
 -- What a replica reads is what its medium holds, so what it says by that is its answer.
 -- Assumes nothing.
-use mathlib.Core.Path.{_≡_, refl, sym, ap, ap₂, _∙_}
-use mathlib.Core.Bool.{Bool, true, false, not, _||_, cond}
+use mathlib.Core.Path.{_≡_, refl, sym, ap, _∙_}
+use mathlib.Core.Bool.{Bool, true, false, not, _||_}
 use mathlib.Core.List.{List}
 use Prim.Native.Nat.{ℕ, _≤_}
 use lib.ListN.{length}
@@ -24,8 +24,8 @@ use Rattle.storage.specs.AsRead.{AsRead}
 use Rattle.storage.proofs.Marks.{performed-mark}
 use Rattle.cluster.specs.Refusals.{answered, isNeither, noSlot, promiseAbove, promiseDiffers, markDiffers, refuses}
 use Rattle.replica.specs.declared.Heard.{Heard}
-use Rattle.replica.specs.declared.Heard.the-variants.{Silent, Declined, Mark}
-use Rattle.replica.specs.Answers.{whenAnswered, says, prepares, otherPromise, otherMark, declines, Answered as Reply, answerTo, readHeard, lacksSlot, readPromise, readMark, readDeclines, Behind}
+use Rattle.replica.specs.declared.Heard.the-variants.{Silent, Mark}
+use Rattle.replica.specs.Answers.{whenAnswered, says, prepares, otherPromise, otherMark, answerTo, readHeard, lacksSlot, readPromise, readMark, readDeclines, Behind}
 
 -- the number that follows is not looked at where one of the three declines
 says-any : (a b c : Bool) (n k : ℕ) → (a || b || c) ≡ true → says a b c n ≡ says a b c k

@@ -9,9 +9,9 @@ use Rattle.fate.specs.declared.Fate.{Fate}
 use Rattle.storage.specs.declared.operation.Operation.{Operation}
 use Rattle.storage.specs.declared.operation.Operation.the-variants as op
 use Rattle.storage.specs.declared.operation.Read.{Read}
-use Rattle.storage.specs.Sizes.{placesLimit, placeSize, mediumSize}
+use Rattle.storage.specs.Sizes.{placesLimit, mediumSize}
 use Rattle.storage.specs.Log.{markOf}
-use Rattle.storage.specs.Operations.{writesOf, HasPlace}
+use Rattle.storage.specs.Operations.{writesOf}
 use Rattle.cluster.specs.declared.Refusal.the-variants.{NoSlot, OtherPromise, OtherMark}
 use Rattle.cluster.specs.Refusals.{answered, isNeither, noSlot, promiseAbove, promiseDiffers, markDiffers}
 use Rattle.cluster.specs.Effects.{mediumAfter}

@@ -1,9 +1,9 @@
 // A replica's answer to an operation: what it finds on its medium, whether it declines, what it writes and what the server hears.
 ghost use mathlib.Core.Path.{_≡_};
 ghost use mathlib.Core.Bool.{_||_, true, false};
-ghost use Prim.Native.Nat.{_≤_, _<_};
+ghost use Prim.Native.Nat.{_<_};
 ghost use lib.ListN.{length};
-ghost use Rattle.storage.specs.Sizes.{placeSize, mediumSize};
+ghost use Rattle.storage.specs.Sizes.{placeSize};
 ghost use Rattle.storage.specs.Operations.{HasPlace};
 ghost use Rattle.cluster.specs.Refusals.{answered, isNeither, refuses};
 ghost use Rattle.replica.specs.Answers.{says, whenAnswered, prepares, Answered, answerTo, readHeard, lacksSlot, readPromise, readMark, readDeclines, Medium, Behind};

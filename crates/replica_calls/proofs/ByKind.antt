@@ -1,7 +1,7 @@
 -- prepare, trim, note and send are their rows and their operation.
 -- Assumes nothing.
 use mathlib.Core.Path.{_≡_, refl, sym, ap, _∙_}
-use mathlib.Core.Bool.{Bool, true, false, cond, _&&_, _||_, and-false, or-false}
+use mathlib.Core.Bool.{false, _||_, and-false, or-false}
 use mathlib.Core.List.{List, [], _∷_, _++_}
 use Prim.Native.Nat.{ℕ}
 use Rattle.fate.specs.declared.Fate.{Fate}
@@ -28,7 +28,7 @@ use Rattle.replica_calls.proofs.Known.{send-room}
 use Rattle.replica_calls.specs.declared.plan.Kind.{Kind}
 use Rattle.replica_calls.specs.declared.plan.Kind.the-variants.{Prepare, Trim, Note, Send}
 use Rattle.replica_calls.specs.Plans.{callOf, phasesOf, sendingRows, operationOf, checkOf, Planned}
-use Rattle.replica_calls.specs.Messages.{operationEffect, operated, receivedBy, Named}
+use Rattle.replica_calls.specs.Messages.{operationEffect, operated, Named}
 
 module _ (h : Shape) (x : State) (s i : ℕ) (f : Fate) (given : List ℕ) where
   abbrev v : Server

@@ -1,7 +1,6 @@
 -- copy is its rows and an append of what the source holds.
 -- Assumes nothing.
 use mathlib.Core.Path.{_≡_, refl, sym, ap, _∙_}
-use mathlib.Core.Bool.{_||_}
 use mathlib.Core.List.{List, _++_}
 use Prim.Native.Nat.{ℕ, _+_}
 use Rattle.fate.specs.declared.Fate.{Fate}

@@ -1,6 +1,6 @@
 -- What is heard of an operation, and the media then, are what the message does unless the replica declines it.
 -- Assumes nothing.
-use mathlib.Core.Path.{_≡_, refl, sym, ap, _∙_}
+use mathlib.Core.Path.{_≡_, refl, ap, _∙_}
 use mathlib.Core.Bool.{Bool, true, false, cond, _&&_, _||_}
 use mathlib.Core.List.{List, [], _∷_}
 use mathlib.Core.Logic.{⊎-elim}
@@ -14,7 +14,6 @@ use borrow.Rule.Slice.PartMut.{putMid}
 use Rattle.octets.specs.Octets.{part, writeAt}
 use Rattle.octets.proofs.Laws.{length-part, between-part, mid-write}
 use Rattle.fate.specs.declared.Fate.{Fate}
-use Rattle.fate.specs.Fates.{Write}
 use Rattle.storage.specs.declared.operation.Operation.{Operation}
 use Rattle.storage.specs.Sizes.{mediumSize}
 use Rattle.storage.specs.Log.{placeAt, markOf}
@@ -26,7 +25,7 @@ use Rattle.cluster.specs.declared.Refusal.the-variants.{NoSlot, OtherPromise, O
 use Rattle.cluster.specs.declared.Outcome.{Outcome}
 use Rattle.cluster.specs.declared.Call.the-variants as call
 use Rattle.cluster.specs.State.{serverAt, markAt}
-use Rattle.cluster.specs.Refusals.{noSlot, promiseDiffers, markDiffers, answered, row, checksOf, firstOf}
+use Rattle.cluster.specs.Refusals.{noSlot, promiseDiffers, markDiffers, answered, row, firstOf}
 use Rattle.cluster.specs.Effects.{Result, mediumAfter, unheard, readEffect}
 use Rattle.cluster.specs.Step.{unless, rest, onceSent}
 use Rattle.replica.specs.declared.Heard.{Heard}
@@ -34,7 +33,7 @@ use Rattle.replica.specs.declared.Heard.the-variants.{Silent, Declined, Mark}
 use Rattle.replica.proofs.Heard.{the-type}
 use Rattle.replica.specs.Answers.{says, prepares, otherPromise, otherMark, declines, Answered, answerTo, readHeard}
 use Rattle.checks.specs.declared.Change.{Change}
-use Rattle.checks.specs.Results.{stateOf, inputOf, resultOf, changed, unchanged}
+use Rattle.checks.specs.Results.{stateOf, inputOf, resultOf, changed}
 use Rattle.checks.proofs.Frame.{declined-server}
 use Rattle.replica_calls.specs.Hearing.{onHeard, counted, afterAnswer, afterSilence, readBy}
 use Rattle.replica_calls.specs.Messages.{appends, operationEffect, operated}

@@ -20,7 +20,6 @@ use Rattle.cluster.proofs.Rows.{passed}
 use Rattle.checks.specs.Verdicts.{verdictOf}
 use Rattle.checks.proofs.Behind.{behind, if-passed}
 use Rattle.replica_calls.specs.declared.plan.Plan.{Plan}
-use Rattle.replica_calls.specs.declared.plan.Plan.the-variants.{Do, Refuse}
 use Rattle.replica_calls.specs.Plans.{checkOf, Planned, isUndecided, decidedMark}
 
 pub as-planned : {p : Plan} {a b : Verdict} {o u : Operation} → Planned p a o → a ≡ b → o ≡ u → Planned p b u

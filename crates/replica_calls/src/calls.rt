@@ -1,7 +1,7 @@
 // prepare, trim, note and send: they differ in their phases, in what they are checked for before the message, and in their operation.
 ghost use mathlib.Core.Path.{_≡_};
 ghost use mathlib.Core.List.{List};
-ghost use Prim.Native.Nat.{ℕ, _<_, _≤_};
+ghost use Prim.Native.Nat.{ℕ, _<_};
 ghost use lib.ListN.{length};
 ghost use Rattle.cluster.specs.declared.Call.the-variants as call;
 ghost use Rattle.cluster.specs.declared.Records.{Records};

@@ -1,11 +1,8 @@
 // What each call has its replica do, or why it is declined before the message: a call is its rows and its operation.
 ghost use mathlib.Core.Path.{_≡_};
-ghost use mathlib.Core.Bool.{cond, not};
-ghost use mathlib.Core.List.{[], _∷_};
 ghost use Prim.Native.Nat.{_<_, _≤_};
-ghost use Rattle.quorum.specs.Vote.{voteOf};
 ghost use Rattle.cluster.specs.State.{activeAt, markAt};
-ghost use Rattle.cluster.specs.Refusals.{prepareRows, messageRows, trimRows, sendRows, firstOf};
+ghost use Rattle.cluster.specs.Refusals.{messageRows, firstOf};
 ghost use Rattle.cluster.specs.Effects.{targetOf};
 ghost use Rattle.checks.specs.Verdicts.{verdictOf};
 ghost use Rattle.replica_calls.specs.declared.plan.Kind.the-variants as kind;

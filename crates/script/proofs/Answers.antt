@@ -3,11 +3,11 @@
 use mathlib.Core.Path.{_≡_, refl, sym, ap, ap₂, _∙_}
 use mathlib.Core.List.{List, []}
 use mathlib.Core.Bool.{Bool, true, false, cond}
-use Prim.Native.Nat.{ℕ, _+_, _-_, _*_, _≤_}
+use Prim.Native.Nat.{ℕ, _-_, _*_}
 use native.Mathlib.Omega.{arith}
 use lib.ListN.{length, take}
 use borrow.Rule.Slice.PartMut.{putMid}
-use Rattle.octets.specs.Octets.{part, writeAt}
+use Rattle.octets.specs.Octets.{writeAt}
 use Rattle.octets.proofs.Laws.{mid-write, part-write}
 use Rattle.storage.specs.Sizes.{mediumSize}
 use Rattle.cluster.specs.declared.Shape.{Shape}
@@ -21,14 +21,13 @@ use Rattle.cluster.specs.Replies.{ok, no}
 use Rattle.cluster.specs.Refusals.{Input}
 use Rattle.cluster.specs.Step.{step}
 use Rattle.checks.specs.Results.{resultOf}
-use Rattle.lines.specs.declared.forms.Line.{Line}
 use Rattle.lines.specs.declared.forms.Line.the-variants as line
 use Rattle.lines.specs.declared.replies.Printed.the-variants as printed
 use Rattle.lines.specs.Forms.{Meaning, bad, cluster, asked, lineOf, dataOf, locksOf}
 use Rattle.lines.specs.Texts.{textOf, replyText}
 use Rattle.script.specs.declared.answer.Held.{Held}
 use Rattle.script.specs.Shapes.{accepted}
-use Rattle.script.specs.Answers.{After, afterOf, unchanged, clusterOf, holding, clusterLine, inputOf, replied, callLine, answerTo}
+use Rattle.script.specs.Answers.{afterOf, unchanged, clusterOf, holding, clusterLine, inputOf, replied, callLine, answerTo}
 
 -- ---- a cluster line, and a call: what was lent is the first n bytes
 

@@ -19,7 +19,7 @@ use Rattle.lines.specs.Texts.{textOf}
 use Rattle.script.specs.declared.answer.Held.{Held}
 use Rattle.script.specs.Shapes.{lineRoom}
 use Rattle.script.specs.declared.answer.Next.{Next}
-use Rattle.script.specs.Answers.{After, afterOf, answerTo}
+use Rattle.script.specs.Answers.{afterOf, answerTo}
 use Rattle.script.specs.Input.{Program, withLine, grown, left, ended, fed, closed, programOf}
 
 -- ---- lists

@@ -1,7 +1,7 @@
 -- Which cluster lines are accepted, and the sizes of what the program holds. Document 01: "R = 1, 3, 5 or 7", "It takes N up to 100 and answers no 1 above that".
 -- Assumes nothing.
 use mathlib.Core.Path.{_≡_}
-use mathlib.Core.Bool.{Bool, cond, _&&_, _||_}
+use mathlib.Core.Bool.{Bool, _&&_, _||_}
 use Prim.Native.Nat.{ℕ, _*_}
 use lib.Dec.{eqb, leb}
 use Rattle.storage.specs.Sizes.{mediumSize}

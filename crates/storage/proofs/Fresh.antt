@@ -1,20 +1,17 @@
 -- A fresh medium is sound, holds an empty log and a valid slot with all fields 0.
 -- Assumes nothing.
-use mathlib.Core.Path.{_≡_, refl, sym, ap, ap₂, _∙_}
-use mathlib.Core.Bool.{Bool, true, false, false≢true}
-use mathlib.Core.List.{List, [], _∷_, _++_, append-assoc}
+use mathlib.Core.Path.{_≡_, refl, sym, ap, _∙_}
+use mathlib.Core.Bool.{false, false≢true}
+use mathlib.Core.List.{List, _∷_, _++_}
 use Prim.Native.Nat.{ℕ, zero, suc, _+_, _-_, _*_, _≤_, _<_}
 use native.Mathlib.Omega.{arith}
 use lib.Dec.{lit<}
 use lib.ListN.{length, take, drop, replicate, length-append, length-replicate}
 use lib.Seq.{take-at, drop-at, drop-drop}
-use Rattle.octets.specs.Octets.{part}
-use Rattle.storage.specs.declared.slot.Current.{Current}
-use Rattle.storage.specs.declared.slot.Current.the-variants.{First, Second, Neither}
 use Rattle.storage.specs.Sizes.{slotSize, slotsSize, placeSize, mediumSize, placeOffset}
 use Rattle.storage.specs.Places.{validPlace, wiped}
-use Rattle.storage.specs.Slots.{slotBytes, slotOf, validSlot, firstOf, secondOf, currentOf, storedSlot, HasSlot, FittingSlot}
-use Rattle.storage.specs.Log.{placeAt, logOf, markOf, Sound}
+use Rattle.storage.specs.Slots.{slotBytes, slotOf, validSlot, firstOf, secondOf, storedSlot, HasSlot}
+use Rattle.storage.specs.Log.{placeAt, markOf, Sound}
 use Rattle.storage.specs.Fresh.{blankSlot, freshMedium}
 use Rattle.storage.proofs.SlotReadBack.{slot-back, slot-length, slot-valid}
 use Rattle.storage.proofs.Scan.{mark-le, log-valid}

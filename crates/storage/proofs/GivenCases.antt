@@ -1,20 +1,20 @@
 -- Given bytes can pass as one place only: the one whose number they begin with.
 -- Assumes nothing.
-use mathlib.Core.Path.{_≡_, refl, sym, ap, ap₂, _∙_}
+use mathlib.Core.Path.{_≡_, refl, sym, ap, _∙_}
 use mathlib.Core.Logic.{_⊎_, inl, inr, ⊎-elim}
-use mathlib.Core.Bool.{Bool, true, false, _||_, or-false}
+use mathlib.Core.Bool.{true, false, _||_, or-false}
 use mathlib.Core.List.{List}
 use Prim.Native.Nat.{ℕ, zero, suc, _≤_, _<_}
 use native.Mathlib.Omega.{arith}
 use native.Mathlib.Decide.{ℕ-discrete}
-use lib.ListN.{length, take}
-use Rattle.storage.specs.Sizes.{slotSize, placeSize}
+use lib.ListN.{take}
+use Rattle.storage.specs.Sizes.{slotSize}
 use Rattle.storage.specs.Places.{idOf, validPlace}
 use Rattle.storage.specs.Slots.{validSlot}
 use Rattle.storage.specs.Given.{passesAsPlace, passes}
 use Rattle.storage.proofs.PlaceCases.{bad-id}
 
-module _ (g : List ℕ) (size : length g ≡ placeSize) where
+module _ (g : List ℕ) where
   other : (n : ℕ) → (idOf g ≡ n → ⊥) → validPlace n g ≡ false
   other n h = sym (bad-id n g h)
 

@@ -1,11 +1,11 @@
 -- What one write leaves of the log: a record behind it, invalid bytes at its end, a write among the slots.
 -- Assumes nothing.
-use mathlib.Core.Path.{_≡_, refl, sym, ap, ap₂, _∙_, subst}
-use mathlib.Core.Bool.{Bool, true, false}
+use mathlib.Core.Path.{_≡_, refl, sym, ap, _∙_, subst}
+use mathlib.Core.Bool.{true, false}
 use mathlib.Core.List.{List, [], _∷_, _++_}
-use Prim.Native.Nat.{ℕ, zero, suc, _+_, _-_, _≤_, _<_}
+use Prim.Native.Nat.{ℕ, suc, _+_, _-_, _≤_, _<_}
 use native.Mathlib.Omega.{arith}
-use lib.ListN.{length, getD, take, set}
+use lib.ListN.{length, take, set}
 use Rattle.octets.specs.Octets.{writeAt, beFrom, beOf}
 use Rattle.octets.proofs.Laws.{length-write}
 use Rattle.storage.specs.Sizes.{slotsSize, placeSize, mediumSize, placeOffset}

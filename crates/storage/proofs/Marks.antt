@@ -1,8 +1,8 @@
 -- The mark after an operation that is not cut, on media of any content: bytes above the mark may be anything, also valid places behind a gap.
 -- Assumes nothing.
-use mathlib.Core.Path.{_≡_, refl, sym, ap, _∙_}
-use mathlib.Core.Bool.{Bool, true, false}
-use mathlib.Core.List.{List, [], _∷_, _++_}
+use mathlib.Core.Path.{_≡_, refl, ap, _∙_}
+use mathlib.Core.Bool.{true, false}
+use mathlib.Core.List.{List, [], _++_}
 use Prim.Native.Nat.{ℕ, zero, suc, _+_, _-_, _≤_, _<_, min}
 use native.Mathlib.Omega.{arith}
 use native.Mathlib.Decide.{decLe, decLt, ℕ-discrete}
@@ -10,19 +10,19 @@ use lib.ListN.{length}
 use Rattle.octets.specs.Octets.{writeAt}
 use Rattle.octets.proofs.Laws.{length-write}
 use Rattle.fate.specs.declared.Left.the-variants.{New}
-use Rattle.fate.specs.Fates.{Write, allOf, leave}
+use Rattle.fate.specs.Fates.{allOf, leave}
 use Rattle.storage.specs.declared.slot.Slot.{Slot}
 use Rattle.storage.specs.declared.slot.Current.{Current}
 use Rattle.storage.specs.declared.operation.Target.{Target}
 use Rattle.storage.specs.declared.operation.Target.the-variants.{Whole, Mark}
 use Rattle.storage.specs.declared.operation.Operation.{Operation}
 use Rattle.storage.specs.declared.operation.Operation.the-variants.{Prepare, Trim, Note, Append}
-use Rattle.storage.specs.Sizes.{slotsSize, placeSize, mediumSize, placeOffset}
+use Rattle.storage.specs.Sizes.{placeSize, mediumSize, placeOffset}
 use Rattle.storage.specs.Places.{validPlace, wiped}
 use Rattle.storage.specs.Slots.{slotBytes, currentOf, storedSlot, otherAt}
 use Rattle.storage.specs.Log.{placeAt, markOf}
-use Rattle.storage.specs.Operations.{slotWrite, placeWrite, wipes, promising, closing, closedMark, prepareWrites, trimWrites, noteWrites, writesOf, HasPlace, MarkKnown}
-use Rattle.storage.proofs.Scan.{rest, mark-le, mark-known, mark-next, mark-stop, log-valid, log-ends}
+use Rattle.storage.specs.Operations.{slotWrite, wipes, promising, closing, closedMark, prepareWrites, trimWrites, noteWrites, writesOf, HasPlace, MarkKnown}
+use Rattle.storage.proofs.Scan.{mark-le, mark-known, mark-next, mark-stop, log-valid, log-ends}
 use Rattle.storage.proofs.Blocks.{place-same, place-other}
 use Rattle.storage.proofs.LogWrites.{length-wiped, wiped-invalid}
 use Rattle.storage.proofs.Promises.{PlacesKept, slot-write-places, all-first}
@@ -50,10 +50,6 @@ mark-exactly N k m h v z = go (decLt k N)
     go : Dec (k < N) → markOf N m ≡ k
     go (yes p) = mark-known N k m reached ∙ mark-stop N k m p (z p)
     go (no p) = omega (arith, p, reached, mark-le N m)
-
--- the log's own places, and the one behind it
-valid-log : (N : ℕ) (m : List ℕ) → ValidTo (markOf N m) m
-valid-log N m i h = log-valid N i m h
 
 -- where every place is kept, so is the mark
 pub mark-kept : (N : ℕ) (m m′ : List ℕ) → PlacesKept m m′ → markOf N m′ ≡ markOf N m

@@ -1,7 +1,7 @@
 -- The cases of a place's validity, in the order in which the code tries them, and all that it says.
 -- Assumes nothing.
-use mathlib.Core.Path.{_≡_, refl, sym, ap, _∙_}
-use mathlib.Core.Bool.{Bool, true, false, _&&_, and-eq-true-iff}
+use mathlib.Core.Path.{_≡_, sym, ap, _∙_}
+use mathlib.Core.Bool.{Bool, true, false, _&&_, and-false, and-eq-true-iff}
 use mathlib.Core.List.{List}
 use Prim.Native.Nat.{ℕ, _+_, _-_, _<_, _≤_}
 use native.Mathlib.Omega.{arith}
@@ -14,10 +14,6 @@ use Rattle.storage.specs.Layout.{dataOffset, checkOffset, formed}
 use Rattle.storage.specs.Sizes.{placeLayout, dataLimit, placeSize}
 use Rattle.storage.specs.Places.{idOf, sizeOf, validPlace}
 use Rattle.storage.proofs.Layouts as layout
-
-and-false : (a : Bool) → (a && false) ≡ false
-and-false true = refl
-and-false false = refl
 
 -- the zeros behind the data
 abbrev tailOf : List ℕ → List ℕ

@@ -8,19 +8,17 @@
 --   place writes leave both slots (SlotsKept), slot writes leave every place (PlacesKept), and "no valid place above the mark"
 --   (Sound) is kept by every operation.
 -- Assumes nothing.
-use mathlib.Core.Path.{_≡_, refl, sym, ap, ap₂, _∙_, subst, subst⁻¹}
-use mathlib.Core.Logic.{_⊎_, inl, inr, ⊎-elim}
-use mathlib.Core.Bool.{Bool, true, false, cond}
+use mathlib.Core.Path.{_≡_, refl, sym, ap, _∙_, subst, subst⁻¹}
+use mathlib.Core.Logic.{_⊎_, inl, inr}
+use mathlib.Core.Bool.{true, false}
 use mathlib.Core.List.{List, [], _∷_, _++_}
 use Prim.Native.Nat.{ℕ, zero, suc, _+_, _-_, _≤_, _<_, _^_, min}
 use native.Mathlib.Omega.{arith}
 use native.Mathlib.Decide.{decLe, ℕ-discrete}
-use lib.Dec.{eqb}
 use lib.ListN.{length, take, length-take}
 use lib.Seq.{take-length, take-all}
-use borrow.Author.Tests.{eq-eqb, ne-eqb}
 use Rattle.octets.specs.Octets.{writeAt}
-use Rattle.octets.proofs.Laws.{length-write, part-after}
+use Rattle.octets.proofs.Laws.{part-after}
 use Rattle.fate.specs.declared.Left.{Left}
 use Rattle.fate.specs.declared.Left.the-variants.{Old, New, Torn}
 use Rattle.fate.specs.declared.Fate.{Fate}
@@ -44,7 +42,7 @@ use Rattle.storage.proofs.Writing.{other-le, promised, not-promised}
 use Rattle.storage.proofs.Wiping.{wiping-end}
 use Rattle.storage.proofs.Blocks.{place-same}
 use Rattle.storage.proofs.LogWrites.{length-wiped, log-more, log-cut, log-kept}
-use Rattle.storage.proofs.SlotWrites.{current-kept, stored-kept, Overwritten, slot-over, slot-torn}
+use Rattle.storage.proofs.SlotWrites.{current-kept, stored-kept, slot-over, slot-torn}
 use Rattle.storage.proofs.Truncating.{Shortened, no-change, torn-place, torn-slot, mark-is, truncated, truncated-all}
 
 -- ================ the words of the promises

@@ -1,17 +1,16 @@
 -- What the steps of a replica's operations amount to: the writes of the definitions, under the fate.
 -- Assumes nothing.
-use mathlib.Core.Path.{_≡_, refl, sym, ap, ap₂, _∙_}
+use mathlib.Core.Path.{_≡_, sym, ap, ap₂, _∙_}
 use mathlib.Core.Bool.{Bool, true, false, cond}
 use mathlib.Core.List.{List, [], _∷_, _++_}
 use Prim.Native.Nat.{ℕ, _+_, _-_, _≤_}
-use native.Mathlib.Omega.{arith}
 use lib.Dec.{eqb, lit≤}
 use lib.ListN.{length}
 use borrow.Author.Tests.{eq-eqb, ne-eqb}
 use Rattle.fate.specs.declared.Fate.{Fate}
 use Rattle.fate.specs.Fates.{Write, leave, after}
 use Rattle.fate.specs.Numbered.{effectOf, afterFrom}
-use Rattle.fate.proofs.Laws.{numbered, from-append, from-one, from-none}
+use Rattle.fate.proofs.Laws.{numbered, from-append, from-one}
 use Rattle.storage.specs.declared.slot.Slot.{Slot}
 use Rattle.storage.specs.declared.slot.Current.{Current}
 use Rattle.storage.specs.declared.slot.Current.the-variants.{First, Second, Neither}

@@ -1,6 +1,5 @@
 -- `checks::admit_phase`: 5 need only be right if 1 to 3 pass (`if-passed`), and then it is the phase of a server that there is.
-use mathlib.Core.List.{[], _∷_, _++_}
-use Rattle.cluster.specs.Refusals.{row, serverRows}
+use Rattle.cluster.specs.Refusals.{serverRows}
 use Rattle.cluster.proofs.Rows.{passed}
 use Rattle.checks.specs.Results.{stateOf}
 use Rattle.checks.proofs.Behind.{if-passed}

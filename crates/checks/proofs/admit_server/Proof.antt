@@ -1,5 +1,4 @@
 -- `checks::admit_server`: the test for 3 behind `admit_cluster`'s rows is the list of the two (`behind`).
-use mathlib.Core.List.{[], _∷_}
 use Rattle.cluster.specs.Refusals.{clusterRows}
 use Rattle.checks.specs.Results.{stateOf}
 use Rattle.checks.proofs.Behind.{behind}

@@ -1,7 +1,6 @@
 -- `checks::replicas_fit`: the tests for 1, 3, 5 and 7 are the definition's, in its order (`guards`).
 use Rattle.base.proofs.Tests.{guards}
 use Rattle.cluster.specs.Refusals.{replicasFit}
-use borrow.Author.Needs.{needs}
 use Rattle.checks.proofs.replicas_fit.Statement.{statement}
 use Rattle.checks.proofs.replicas_fit.Tie as tie
 

@@ -1,7 +1,7 @@
 -- `crc32::look_up`. The invariant: look-ups made and still to make are all; what is left of x has a byte for each turn left.
 -- Assumes nothing.
 use mathlib.Core.Path.{_≡_, refl, sym, ap, _∙_}
-use Prim.Native.Nat.{ℕ, _+_, _-_, _^_, _≤_, _<_}
+use Prim.Native.Nat.{_+_, _-_, _^_, _≤_, _<_}
 use lib.Bits.{bitXor}
 use Rattle.crc32.proofs.Words.{lookUps, four-out, look-next, look-end, bytes-left, bytes-all}
 use native.Mathlib.Omega.{arith}

@@ -1,6 +1,5 @@
 -- `crc32::tables`: the constant is the tables, since antt computes each row by doubling.
 -- Assumes nothing.
-use mathlib.Core.Path.{refl}
 use Rattle.crc32.specs.Crc32.{bitStep, bitSteps}
 use Rattle.crc32.proofs.Rows.{doubled, rowsOf, rows}
 use Rattle.crc32.proofs.tables.Statement.{statement}

@@ -1,7 +1,6 @@
 -- `fate::store`, by what becomes of the write: nothing, its own bytes or as many given ones are put, as `leave` has it.
 use mathlib.Core.Path.{sym, _∙_}
 use lib.ListN.{length-take}
-use Rattle.fate.specs.Numbered.{effectOf}
 use Rattle.fate.specs.Fates.{leave}
 use native.Mathlib.Omega.{arith}
 use borrow.Author.Needs.{needs}

@@ -1,15 +1,12 @@
 -- `octets::all_zero`. The invariant: whether the bytes from i on are zeros decides.
-use mathlib.Core.Path.{_≡_, refl, sym, ap, _∙_}
-use Prim.Native.Nat.{ℕ, _≤_, _<_, _-_, _+_, _^_}
-use lib.ListN.{length, take, drop, getD, set, replicate, length-set, length-replicate, getD-replicate}
+use mathlib.Core.Path.{_≡_, refl, sym, _∙_}
+use Prim.Native.Nat.{_≤_, _-_}
+use lib.ListN.{length, drop}
 use Rattle.octets.specs.Octets.{allZero}
 use Rattle.octets.proofs.Lists.{allZero-next, allZero-stop, allZero-end}
-use native.Mathlib.Omega.{arith}
 use borrow.Author.Needs.{needs}
 use Rattle.octets.proofs.all_zero.Statement.{statement}
 use Rattle.octets.proofs.all_zero.Tie as tie
-use Rattle.octets.proofs.all_zero.Reads as reads
-use Rattle.octets.proofs.all_zero.Lts as lts
 
 abbrev Inv-loop : tie.InvT-loop
 Inv-loop s i₀ i = (i ≤ length s) × (allZero s ≡ allZero (drop i s))

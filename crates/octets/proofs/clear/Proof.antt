@@ -1,14 +1,12 @@
 -- `octets::clear`. The invariant: the first i bytes are zeros.
 use mathlib.Core.Path.{_≡_, refl, sym, ap, _∙_}
-use Prim.Native.Nat.{ℕ, _≤_, _<_, _-_, _+_, _^_}
-use lib.ListN.{length, take, drop, getD, set, replicate, length-set, length-replicate, getD-replicate}
+use Prim.Native.Nat.{ℕ, _≤_, _<_, _-_, _+_}
+use lib.ListN.{length, take, set, replicate, length-set, length-replicate, getD-replicate}
 use Rattle.octets.proofs.Lists.{copy-next, copy-end}
 use native.Mathlib.Omega.{arith}
 use borrow.Author.Needs.{needs}
 use Rattle.octets.proofs.clear.Statement.{statement}
 use Rattle.octets.proofs.clear.Tie as tie
-use Rattle.octets.proofs.clear.Reads as reads
-use Rattle.octets.proofs.clear.Lts as lts
 
 abbrev Inv-loop : tie.InvT-loop
 Inv-loop dst₀ i₀ dst i = (i ≤ length dst) × (length dst ≡ length dst₀) × (take i dst ≡ take i (replicate (length dst₀) 0))

@@ -1,15 +1,13 @@
 -- `octets::get_be`. The invariant: v and the bytes from i on behind it give the number, and v has at most i bytes, so it fits 64 bits.
-use mathlib.Core.Path.{_≡_, refl, sym, ap, _∙_}
-use Prim.Native.Nat.{ℕ, _≤_, _<_, _-_, _+_, _^_}
-use lib.ListN.{length, take, drop, getD, set, replicate, length-set, length-replicate, getD-replicate}
+use mathlib.Core.Path.{_≡_, refl, sym, _∙_}
+use Prim.Native.Nat.{_≤_, _<_, _-_, _^_}
+use lib.ListN.{length, drop, getD}
 use Rattle.octets.specs.Octets.{beFrom, beOf}
 use Rattle.octets.proofs.Lists.{be-next, be-end, be-fits, be-room}
 use native.Mathlib.Omega.{arith}
 use borrow.Author.Needs.{needs}
 use Rattle.octets.proofs.get_be.Statement.{statement}
 use Rattle.octets.proofs.get_be.Tie as tie
-use Rattle.octets.proofs.get_be.Reads as reads
-use Rattle.octets.proofs.get_be.Lts as lts
 
 abbrev Inv-loop : tie.InvT-loop
 Inv-loop s v₀ i₀ v i = (i ≤ length s) × (v < 256 ^ i) × (beFrom 0 s ≡ beFrom v (drop i s))

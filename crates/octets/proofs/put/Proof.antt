@@ -3,13 +3,9 @@ use mathlib.Core.Path.{refl}
 use Prim.Native.Nat.{_+_}
 use lib.ListN.{length}
 use Rattle.octets.proofs.Laws.{mid-write}
-use native.Mathlib.Omega.{arith}
 use borrow.Author.Needs.{needs}
 use Rattle.octets.proofs.put.Statement.{statement}
 use Rattle.octets.proofs.put.Tie as tie
-use Rattle.octets.proofs.put.Reads as reads
-use Rattle.octets.proofs.put.Lts as lts
-use Rattle.octets.proofs.copy.Reads as copy-reads
 
 add-e : tie.Need-add-e
 add-e c = search needs

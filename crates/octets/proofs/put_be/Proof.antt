@@ -5,13 +5,9 @@ use native.Mathlib.Nat.{add-sub-cancel-left}
 use lib.ListN.{length, take, drop}
 use Rattle.octets.specs.Octets.{beBytes}
 use Rattle.octets.proofs.Laws.{mid-write, length-be, length-between}
-use native.Mathlib.Omega.{arith}
 use borrow.Author.Needs.{needs}
 use Rattle.octets.proofs.put_be.Statement.{statement}
 use Rattle.octets.proofs.put_be.Tie as tie
-use Rattle.octets.proofs.put_be.Reads as reads
-use Rattle.octets.proofs.put_be.Lts as lts
-use Rattle.octets.proofs.set_be.Reads as set-be-reads
 
 add-e : tie.Need-add-e
 add-e c = search needs

@@ -1,7 +1,7 @@
 -- `octets::set_be`. The invariant: the i low bytes of x, then the bytes from i on, are all the bytes of v.
 use mathlib.Core.Path.{_≡_, refl, sym, ap, _∙_}
-use Prim.Native.Nat.{ℕ, _≤_, _<_, _-_, _+_, _^_}
-use lib.ListN.{length, take, drop, getD, set, replicate, length-set, length-replicate, getD-replicate}
+use Prim.Native.Nat.{ℕ, _≤_, _-_, _+_}
+use lib.ListN.{length, drop, length-set}
 use mathlib.Core.List.{List, _++_, append-nil}
 use lib.Seq.{drop-length}
 use Rattle.octets.specs.Octets.{beBytes}
@@ -10,8 +10,6 @@ use native.Mathlib.Omega.{arith}
 use borrow.Author.Needs.{needs}
 use Rattle.octets.proofs.set_be.Statement.{statement}
 use Rattle.octets.proofs.set_be.Tie as tie
-use Rattle.octets.proofs.set_be.Reads as reads
-use Rattle.octets.proofs.set_be.Lts as lts
 
 abbrev Inv-loop : tie.InvT-loop
 Inv-loop dst₀ v x₀ i₀ dst x i = (i ≤ length dst) × (length dst ≡ length dst₀) × (beBytes (length dst₀) v ≡ beBytes i x ++ drop i dst)

@@ -1,10 +1,9 @@
 -- `replica::answer`: it declines (`declining`), or performs; then it is answered, with the mark that is known, or silent (`performing`).
-use mathlib.Core.Path.{_≡_, sym, ap, _∙_}
-use mathlib.Core.Bool.{true, false}
+use mathlib.Core.Path.{sym, ap, _∙_}
 use Prim.Native.Nat.{ℕ}
 use Rattle.fate.specs.Fates.{after}
-use Rattle.storage.specs.Operations.{writesOf, HasPlace}
-use Rattle.replica.specs.Answers.{whenAnswered, prepares, readDeclines}
+use Rattle.storage.specs.Operations.{writesOf}
+use Rattle.replica.specs.Answers.{whenAnswered}
 use Rattle.replica.proofs.Answering.{declining, performing, known-mark, heard-mark, heard-none}
 use native.Mathlib.Omega.{arith}
 use borrow.Author.Needs.{needs}

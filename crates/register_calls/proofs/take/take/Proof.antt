@@ -1,7 +1,7 @@
 -- `take::take`: 6 and 21 behind the admission's rows are the whole list (`behind`); once it passes, `taken` ensures the effect.
 use mathlib.Core.Path.{_≡_, refl}
 use mathlib.Core.List.{[], _∷_, _++_}
-use Rattle.cluster.specs.Refusals.{isCut, sessionAtTop, row, seen, onlyIdle, phaseRows, checksOf, firstOf}
+use Rattle.cluster.specs.Refusals.{isCut, sessionAtTop, row, seen, onlyIdle, phaseRows, firstOf}
 use Rattle.cluster.specs.Effects.{takeEffect}
 use Rattle.cluster.specs.Step.{step}
 use Rattle.checks.specs.Verdicts.{verdictOf}

@@ -1,6 +1,6 @@
 -- `program::reply`: what `answer` leaves, and its text behind the replies not written yet.
 -- Assumes nothing.
-use mathlib.Core.Path.{_≡_, refl, ap, _∙_}
+use mathlib.Core.Path.{refl, ap, _∙_}
 use Prim.Native.Nat.{ℕ}
 use lib.ListN.{take}
 use Rattle.lines.specs.Forms.{meaningOf}

@@ -1,5 +1,5 @@
 -- `operation::given_pass`: given bytes pass as a slot, as no place, or as the one place that they name (GivenCases).
-use mathlib.Core.Path.{_≡_, sym, ap, _∙_}
+use mathlib.Core.Path.{sym, ap, _∙_}
 use mathlib.Core.Logic.{inl, inr}
 use Prim.Native.Nat.{ℕ}
 use Rattle.storage.specs.Places.{idOf, validPlace}
@@ -24,7 +24,7 @@ valid-requires c κs = search needs
 returns : tie.Need-returns
 returns c =
     let a = c .before .before .before .before .args in
-    as-slot (a .g .now) (c .before .before .before .before .pre .1) (a .places) (sym (c .before .valid .ensures) ∙ c .if1 .taken)
+    as-slot (a .g .now) (a .places) (sym (c .before .valid .ensures) ∙ c .if1 .taken)
 
 sub-get-be : tie.Need-sub-get-be
 sub-get-be c = search needs
@@ -42,13 +42,13 @@ returns-2 : tie.Need-returns-2
 unfolding idOf
 returns-2 c =
     let a = c .before .before .before .before .before .before .before .args in
-    as-none (a .g .now) (c .before .before .before .before .before .before .before .pre .1) (a .places) (sym (c .before .before .before .before .valid .ensures) ∙ c .before .before .before .if1 .left) (inl (sym (c .before .get-be .ensures .0) ∙ c .if2 .taken))
+    as-none (a .g .now) (a .places) (sym (c .before .before .before .before .valid .ensures) ∙ c .before .before .before .if1 .left) (inl (sym (c .before .get-be .ensures .0) ∙ c .if2 .taken))
 
 returns-3 : tie.Need-returns-3
 unfolding idOf
 returns-3 c =
     let a = c .before .before .before .before .before .before .before .before .args in
-    as-none (a .g .now) (c .before .before .before .before .before .before .before .before .pre .1) (a .places) (sym (c .before .before .before .before .before .valid .ensures) ∙ c .before .before .before .before .if1 .left) (inr (rw (← (c .before .before .get-be .ensures .0)) (c .if3 .taken)))
+    as-none (a .g .now) (a .places) (sym (c .before .before .before .before .before .valid .ensures) ∙ c .before .before .before .before .if1 .left) (inr (rw (← (c .before .before .get-be .ensures .0)) (c .if3 .taken)))
 
 valid-requires-2 : tie.Need-valid-requires-2
 valid-requires-2 c κs = search needs
@@ -59,7 +59,7 @@ returns-4 c =
     let a = c .before .before .before .before .before .before .before .before .before .args in
     let n = c .before .before .before .get-be .ensures .0 in
     c .valid2 .ensures ∙ ap (λ (i : ℕ). validPlace i (a .g .now)) n
-    ∙ as-named (a .g .now) (c .before .before .before .before .before .before .before .before .before .pre .1) (a .places) (sym (c .before .before .before .before .before .before .valid .ensures) ∙ c .before .before .before .before .before .if1 .left) (omega (arith, n, c .before .before .if2 .left)) (omega (arith, n, c .before .if3 .left))
+    ∙ as-named (a .g .now) (a .places) (sym (c .before .before .before .before .before .before .valid .ensures) ∙ c .before .before .before .before .before .if1 .left) (omega (arith, n, c .before .before .if2 .left)) (omega (arith, n, c .before .if3 .left))
 
 pub given-pass-spec : {M : Type 1} → statement M
 given-pass-spec =

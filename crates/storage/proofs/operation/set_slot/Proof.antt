@@ -1,5 +1,5 @@
 -- `operation::set_slot`: `store` makes the write whose offset `other` and whose bytes `encode` ensures.
-use mathlib.Core.Path.{_≡_, ap, ap₂, _∙_}
+use mathlib.Core.Path.{ap, ap₂, _∙_}
 use mathlib.Core.List.{List}
 use Prim.Native.Nat.{ℕ}
 use lib.ListN.{length}

@@ -1,8 +1,7 @@
 -- `place::encode`: the three writes are the head (`head-written`), and the head with its CRC behind it is the record (`seal-all`).
-use mathlib.Core.Path.{_≡_, refl, sym, ap, ap₂, _∙_}
-use mathlib.Core.List.{List, [], _∷_, _++_}
-use Prim.Native.Nat.{ℕ, _+_, _-_, _≤_, zero-le}
-use lib.ListN.{length, take, drop, replicate}
+use mathlib.Core.Path.{_≡_, refl, sym}
+use Prim.Native.Nat.{_-_}
+use lib.ListN.{length, take, drop}
 use Rattle.octets.specs.Octets.{writeAt, fieldsOf, offsetOf}
 use Rattle.storage.specs.Layout.{dataOffset, checkOffset, padded, headOf}
 use Rattle.storage.specs.Sizes.{placeLayout}
@@ -10,7 +9,6 @@ use Rattle.storage.specs.Places.{placeNumbers, recordBytes}
 use Rattle.crc32.proofs.Sealed.{seal-all}
 use Rattle.storage.proofs.Layouts.{length-head}
 use Rattle.storage.proofs.RecordWritten.{head-written}
-use native.Mathlib.Omega.{arith}
 use borrow.Author.Needs.{needs}
 use Rattle.storage.proofs.place.encode.Statement.{statement}
 use Rattle.storage.proofs.place.encode.Tie as tie

@@ -1,11 +1,6 @@
 -- `place::fill`: the data, and the cleared part behind them, are one write of the padded data (`fill-written`).
-use mathlib.Core.Path.{_≡_, refl, sym, ap, ap₂, _∙_}
-use mathlib.Core.List.{List, [], _∷_, _++_}
-use Prim.Native.Nat.{ℕ, _+_, _-_, _≤_, zero-le}
-use lib.ListN.{length, take, drop, replicate}
-use Rattle.octets.specs.Octets.{writeAt, fieldsOf}
+use Prim.Native.Nat.{_-_}
 use Rattle.storage.proofs.RecordWritten.{fill-written}
-use native.Mathlib.Omega.{arith}
 use borrow.Author.Needs.{needs}
 use Rattle.storage.proofs.place.fill.Statement.{statement}
 use Rattle.storage.proofs.place.fill.Tie as tie

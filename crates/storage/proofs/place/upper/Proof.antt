@@ -1,9 +1,7 @@
 -- `place::upper`: three numbers from the fifth field on, each written behind the one before, are one write (`next-field`).
-use mathlib.Core.Path.{_≡_, refl, sym, ap, ap₂, _∙_}
-use mathlib.Core.List.{List, [], _∷_, _++_}
-use Prim.Native.Nat.{ℕ, _+_, _-_, _≤_, zero-le}
-use lib.ListN.{length, take, drop, replicate}
-use Rattle.octets.specs.Octets.{writeAt, fieldsOf}
+use mathlib.Core.List.{[], _∷_}
+use Prim.Native.Nat.{_-_, _≤_}
+use lib.ListN.{length}
 use Rattle.octets.proofs.Numbers.{first-field, next-field}
 use native.Mathlib.Omega.{arith}
 use borrow.Author.Needs.{needs}

@@ -3,7 +3,7 @@ use borrow.Author.Tests.{not-true, not-false}
 use mathlib.Core.Path.{_≡_, sym, ap, _∙_}
 use Prim.Native.Nat.{_≤_}
 use lib.ListN.{length}
-use Rattle.octets.specs.Octets.{allZero, part}
+use Rattle.octets.specs.Octets.{allZero}
 use Rattle.storage.specs.Sizes.{placeSize, dataLimit}
 use Rattle.storage.specs.Places.{idOf, sizeOf}
 use Rattle.storage.proofs.PlaceCases.{bad-length, bad-id, bad-size, bad-tail, by-check, tail-is}

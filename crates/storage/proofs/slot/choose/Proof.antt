@@ -1,14 +1,10 @@
 -- `slot::choose`: each return knows which slots are valid and, of two valid ones, which is newer: the definition's tests.
-use mathlib.Core.Path.{_≡_, refl, sym, ap, ap₂, _∙_}
+use mathlib.Core.Path.{_≡_, sym, ap₂, _∙_}
 use mathlib.Core.Bool.{true, false}
-use mathlib.Core.List.{List, [], _∷_, _++_}
-use Prim.Native.Nat.{ℕ, _≤_, zero-le}
-use lib.ListN.{length}
-use borrow.Author.Tests.{eq-eqb, ne-eqb, lt-ltb, le-ltb, not-true, not-false}
-use Rattle.octets.specs.Octets.{part, allZero, writeAt, fieldsOf}
+use borrow.Author.Tests.{not-true, not-false}
+use Rattle.octets.specs.Octets.{part}
 use Rattle.storage.specs.Sizes.{slotSize}
-use Rattle.storage.specs.Slots.{slotNumbers, validSlot, slotOf, slotBytes, newer, currentOf, heldOf, otherAt}
-use native.Mathlib.Omega.{arith}
+use Rattle.storage.specs.Slots.{validSlot, slotOf, newer, currentOf}
 use borrow.Author.Needs.{needs}
 use Rattle.storage.proofs.slot.choose.Statement.{statement}
 use Rattle.storage.proofs.slot.choose.Tie as tie

@@ -1,13 +1,4 @@
 -- `slot::held`, by which slot is current: `read` of that part of the medium, or zeros if neither is.
-use mathlib.Core.Path.{_≡_, refl, sym, ap, ap₂, _∙_}
-use mathlib.Core.Bool.{true, false}
-use mathlib.Core.List.{List, [], _∷_, _++_}
-use Prim.Native.Nat.{ℕ, _≤_, zero-le}
-use lib.ListN.{length}
-use borrow.Author.Tests.{eq-eqb, ne-eqb, lt-ltb, le-ltb, not-true, not-false}
-use Rattle.octets.specs.Octets.{part, allZero, writeAt, fieldsOf}
-use Rattle.storage.specs.Slots.{slotNumbers, validSlot, slotOf, slotBytes, newer, currentOf, heldOf, otherAt}
-use native.Mathlib.Omega.{arith}
 use borrow.Author.Needs.{needs}
 use Rattle.storage.proofs.slot.held.Statement.{statement}
 use Rattle.storage.proofs.slot.held.Tie as tie

@@ -1,13 +1,5 @@
 -- `slot::read`: each field is the number at its offset, as `get_be` ensures it.
-use mathlib.Core.Path.{_≡_, refl, sym, ap, ap₂, _∙_}
-use mathlib.Core.Bool.{true, false}
-use mathlib.Core.List.{List, [], _∷_, _++_}
-use Prim.Native.Nat.{ℕ, _≤_, zero-le}
-use lib.ListN.{length}
-use borrow.Author.Tests.{eq-eqb, ne-eqb, lt-ltb, le-ltb, not-true, not-false}
-use Rattle.octets.specs.Octets.{part, allZero, writeAt, fieldsOf}
-use Rattle.storage.specs.Slots.{slotNumbers, validSlot, slotOf, slotBytes, newer, currentOf, heldOf, otherAt}
-use native.Mathlib.Omega.{arith}
+use Rattle.storage.specs.Slots.{slotOf}
 use borrow.Author.Needs.{needs}
 use Rattle.storage.proofs.slot.read.Statement.{statement}
 use Rattle.storage.proofs.slot.read.Tie as tie

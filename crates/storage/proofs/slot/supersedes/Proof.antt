@@ -1,14 +1,6 @@
 -- `slot::supersedes`: the greater promise, then the greater low-water mark: the definition's tests, in its order.
-use mathlib.Core.Path.{_≡_, refl, sym, ap, ap₂, _∙_}
-use mathlib.Core.Bool.{true, false}
-use mathlib.Core.List.{List, [], _∷_, _++_}
-use Prim.Native.Nat.{ℕ, _≤_, zero-le}
-use lib.ListN.{length}
-use borrow.Author.Tests.{eq-eqb, ne-eqb, lt-ltb, le-ltb, not-true, not-false}
-use Rattle.octets.specs.Octets.{part, allZero, writeAt, fieldsOf}
-use Rattle.storage.specs.Slots.{slotNumbers, validSlot, slotOf, slotBytes, newer, currentOf, heldOf, otherAt}
-use native.Mathlib.Omega.{arith}
-use borrow.Author.Needs.{needs}
+use borrow.Author.Tests.{eq-eqb, ne-eqb, lt-ltb, le-ltb}
+use Rattle.storage.specs.Slots.{newer}
 use Rattle.storage.proofs.slot.supersedes.Statement.{statement}
 use Rattle.storage.proofs.slot.supersedes.Tie as tie
 

@@ -7,7 +7,6 @@ use Rattle.octets.specs.Octets.{part, allZero}
 use Rattle.storage.specs.Sizes.{slotLayout}
 use Rattle.storage.specs.Slots.{validSlot}
 use Rattle.storage.proofs.Layouts.{bad-length, bad-tail, by-check}
-use native.Mathlib.Omega.{arith}
 use borrow.Author.Needs.{needs}
 use Rattle.storage.proofs.slot.valid.Statement.{statement}
 use Rattle.storage.proofs.slot.valid.Tie as tie

@@ -18,17 +18,17 @@ use Rattle.cluster.specs.declared.Refusal.{Refusal}
 use Rattle.checks.specs.declared.Change.{Change}
 use Rattle.checks.specs.Results.{stateOf, inputOf, resultOf, changed, unchanged}
 use Rattle.checks.proofs.Frame.{refused, goes-on, declined-server}
-use Rattle.replica_calls.specs.declared.plan.Plan.{Plan}
-use Rattle.replica_calls.specs.declared.plan.Plan.the-variants.{Do, Refuse}
+use Rattle.delivery.specs.declared.plan.Plan.{Plan}
+use Rattle.delivery.specs.declared.plan.Plan.the-variants.{Do, Refuse}
 use Rattle.cluster.proofs.Rows.{passed}
 use Rattle.storage.specs.Operations.{HasPlace}
 use Rattle.replica.specs.Answers.{Behind}
 use Rattle.checks.specs.Verdicts.{verdictOf}
 use Rattle.replica_calls.proofs.Known.{send-room}
-use Rattle.replica_calls.specs.declared.plan.Kind.{Kind}
-use Rattle.replica_calls.specs.declared.plan.Kind.the-variants.{Prepare, Trim, Note, Send}
-use Rattle.replica_calls.specs.Plans.{callOf, phasesOf, sendingRows, operationOf, checkOf, Planned}
-use Rattle.replica_calls.specs.Messages.{operationEffect, operated, Named}
+use Rattle.delivery.specs.declared.plan.Kind.{Kind}
+use Rattle.delivery.specs.declared.plan.Kind.the-variants.{Prepare, Trim, Note, Send}
+use Rattle.delivery.specs.Plans.{callOf, phasesOf, sendingRows, operationOf, checkOf, Planned}
+use Rattle.delivery.specs.Messages.{operationEffect, operated, Named}
 
 module _ (h : Shape) (x : State) (s i : ℕ) (f : Fate) (given : List ℕ) where
   abbrev v : Server

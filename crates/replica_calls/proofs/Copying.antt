@@ -22,7 +22,7 @@ use Rattle.checks.specs.declared.Change.{Change}
 use Rattle.checks.specs.Verdicts.{verdictOf}
 use Rattle.checks.specs.Results.{stateOf, inputOf, resultOf, changed, unchanged}
 use Rattle.checks.proofs.Frame.{refused, goes-on, declined-server}
-use Rattle.replica_calls.specs.Messages.{operationEffect, operated}
+use Rattle.delivery.specs.Messages.{operationEffect, operated}
 
 module _ (h : Shape) (x : State) (s a b : ℕ) (f : Fate) (given : List ℕ) where
   abbrev p : Input

@@ -5,13 +5,11 @@ use mathlib.Core.Bool.{Bool, false, not, _||_}
 use mathlib.Core.List.{List, [], _∷_}
 use lib.ListN.{length}
 use mathlib.Core.Logic.{⊎-elim}
-use Prim.Native.Nat.{ℕ, _+_, _*_, _≤_, _<_, _^_}
-use native.Mathlib.Nat.{mul-le-mul}
+use Prim.Native.Nat.{ℕ, _+_, _≤_, _<_}
 use native.Mathlib.Omega.{arith}
 use lib.Dec.{eqb, leb, ltb}
 use borrow.Author.Tests.{leb-false, not-false, eqb-true, eqb-false, ltb-true, ltb-false}
 use Rattle.base.proofs.Tests.{lt-or-le, neither}
-use Rattle.storage.specs.Sizes.{placesLimit, mediumSize}
 use Rattle.cluster.specs.declared.Shape.{Shape}
 use Rattle.cluster.specs.declared.Server.{Server}
 use Rattle.cluster.specs.State.{markAt}
@@ -24,7 +22,7 @@ use Rattle.checks.specs.declared.Check.the-variants.{Pass}
 use Rattle.checks.specs.Verdicts.{verdictOf}
 use Rattle.checks.specs.Results.{stateOf}
 use Rattle.checks.proofs.Frame.{Admitted, admitted, holds-not}
-use Rattle.replica_calls.specs.Messages.{Named}
+use Rattle.delivery.specs.Messages.{Named}
 
 pub named : (h : Shape) (v : Server) (s i bytes marks : ℕ) → Admitted h v s bytes marks → i < h .replicas → Named h v i bytes
 named h v s i bytes marks a l = record {
@@ -54,12 +52,6 @@ send-room mark issued N e l = omega (arith, eqb-true (mark + 1) issued (not-fals
 
 pub copy-room : (mark source N : ℕ) → not (ltb mark source) ≡ false → source ≤ N → mark < N
 copy-room mark source N e l = omega (arith, ltb-true mark source (not-false (ltb mark source) e))
-
--- a medium's end is a number of the machine
-pub span-fits : (N i : ℕ) → N ≤ placesLimit → i < 7 → (i * mediumSize N < 2 ^ 64) × (i * mediumSize N + mediumSize N < 2 ^ 64)
-span-fits N i n l =
-    let p : i * mediumSize N ≤ 7 * 64064 = mul-le-mul {n₂ = 7} {m₂ = 64064} (omega arith) (omega arith) in
-    (omega arith, omega arith)
 
 -- 4 of copy
 pub both-named : (r a b : ℕ) → notTwo r a b ≡ false → (a < r) × (b < r)

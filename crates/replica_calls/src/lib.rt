@@ -2,8 +2,4 @@
 // has a replica do an operation, whose answer the server hears.
 pub mod calls;
 pub mod copy;
-pub mod deliver;
-pub mod fates;
-pub mod hear;
-pub mod plan;
 pub mod read;

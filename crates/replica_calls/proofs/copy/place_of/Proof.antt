@@ -1,6 +1,6 @@
 -- `copy::place_of`: the part lent is replica i's medium (`lent-is`), and `read_place` ensures its place n.
 use native.Mathlib.Omega.{arith}
-use Rattle.replica_calls.proofs.Hearing.{lent-is, lent-size}
+use Rattle.delivery.proofs.Hearing.{lent-is, lent-size}
 use borrow.Author.Needs.{needs}
 use Rattle.replica_calls.proofs.copy.place_of.Statement.{statement}
 use Rattle.replica_calls.proofs.copy.place_of.Tie as tie

@@ -1,5 +1,5 @@
 -- `copy::source_unfit`: the part lent is the source's medium (`lent-is`), of which `unfit` says whether it declines.
-use Rattle.replica_calls.proofs.Hearing.{lent-is, lent-size}
+use Rattle.delivery.proofs.Hearing.{lent-is, lent-size}
 use borrow.Author.Needs.{needs}
 use Rattle.replica_calls.proofs.copy.source_unfit.Statement.{statement}
 use Rattle.replica_calls.proofs.copy.source_unfit.Tie as tie

@@ -1,6 +1,6 @@
 -- `read::read_sent`: the part lent is replica i's medium, so what is heard and the place read are the message's result (`read-heard`).
 use native.Mathlib.Omega.{arith}
-use Rattle.replica_calls.proofs.Hearing.{lent-size, read-heard}
+use Rattle.delivery.proofs.Hearing.{lent-size, read-heard}
 use borrow.Author.Needs.{needs}
 use Rattle.replica_calls.proofs.read.read_sent.Statement.{statement}
 use Rattle.replica_calls.proofs.read.read_sent.Tie as tie

@@ -1,20 +1,17 @@
 // The script program: reads lines of calls from standard input and writes a reply to each. What the bytes of the input make of the
-// program and of its replies is proved (program); this reads and writes them.
+// program and of its replies is proved (crate interpreter); this reads and writes them.
 ghost use mathlib.Core.Path.{_≡_};
 ghost use Prim.Native.Nat.{_≤_};
 ghost use lib.ListN.{length};
 ghost use Rattle.crc32.specs.Tables.{tablesOf};
-ghost use Rattle.script.specs.Shapes.{lineRoom, Lent};
-use crate::program::State;
+ghost use Rattle.interpreter.specs.Shapes.{lineRoom, Lent};
 use crc32::Tables;
+use interpreter::program;
+use interpreter::program::State;
 use libc::STDERR_FILENO;
 use libc::STDIN_FILENO;
 use libc::STDOUT_FILENO;
 use lines::forms::LIMIT;
-
-mod answer;
-mod input;
-mod program;
 
 // What is held of a line: one byte more than a line may have, enough to know that it is too long.
 const ROOM: usize = 501;

@@ -1,0 +1,62 @@
+-- `answer::call_line`: a shape that passed is accepted.
+-- Assumes nothing.
+use mathlib.Core.Path.{sym, _∙_}
+use borrow.Author.Tests.{not-true, not-false}
+use Rattle.interpreter.specs.Answers.{inputOf}
+use Rattle.interpreter.proofs.Answers.{early-call, made-call}
+use borrow.Author.Needs.{needs}
+use Rattle.interpreter.proofs.answer.call_line.Statement.{statement}
+use Rattle.interpreter.proofs.answer.call_line.Tie as tie
+
+is-accepted-requires : tie.Need-is-accepted-requires
+is-accepted-requires c κs = search needs
+
+returns : tie.Need-returns
+returns c =
+    let a = c .before .before .before .before .before .before .before .before .args in
+    early-call (inputOf (a .call) (a .content .now) (a .locks .now)) (a .h) (a .m .now) (a .tables .now) (sym (c .before .is-accepted .ensures) ∙ not-true _ (c .if1 .taken))
+
+size-requires : tie.Need-size-requires
+size-requires c κs = sym (c .before .is-accepted .ensures) ∙ not-false _ (c .if1 .left)
+
+sub-apply : tie.Need-sub-apply
+sub-apply c = search needs
+
+part-apply-start : tie.Need-part-apply-start
+part-apply-start c = search needs
+
+part-apply-end : tie.Need-part-apply-end
+part-apply-end c = search needs
+
+apply-requires : tie.Need-apply-requires
+apply-requires c κs = search needs
+
+same-length : tie.Need-same-length
+same-length c = search needs
+
+same-length-2 : tie.Need-same-length-2
+same-length-2 c = search needs
+
+returns-2 : tie.Need-returns-2
+returns-2 c =
+    let a = c .before .before .before .before .before .before .before .before .before .before .before .before .before .before .before .before .before .before .args in
+    let r = c .before .before .before .before .before .apply in
+    let z = c .before .before .before .before .before .before .before .before .before .size in
+    let e = sym (c .before .before .before .before .before .before .before .before .before .before .before .is-accepted .ensures) ∙ not-false _ (c .before .before .before .before .before .before .before .before .before .before .if1 .left) in
+    made-call (inputOf (a .call) (a .content .now) (a .locks .now)) (a .h) (a .m .now) (a .tables .now) (r .last .1 .1 .0) (r .last .1 .1 .1 .0) (z .result) (r .result) e
+    (z .ensures .0) (search needs) (r .ensures)
+
+pub call-line-spec : {M : Type 1} → statement M
+call-line-spec =
+    tie.close
+    (tie.spec
+    is-accepted-requires
+    returns
+    size-requires
+    sub-apply
+    part-apply-start
+    part-apply-end
+    apply-requires
+    same-length
+    same-length-2
+    returns-2)

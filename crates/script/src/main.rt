@@ -5,7 +5,9 @@ ghost use Prim.Native.Nat.{_≤_};
 ghost use lib.ListN.{length};
 ghost use Rattle.crc32.specs.Tables.{tablesOf};
 ghost use Rattle.script.specs.Shapes.{lineRoom, Lent};
+ghost use Rattle.script.specs.Answers.{nothing};
 use crate::program::State;
+use cluster::Records;
 use crc32::Tables;
 use libc::STDERR_FILENO;
 use libc::STDIN_FILENO;
@@ -59,6 +61,7 @@ fn write(out: &[u8], o: usize) -> bool
 // Reads a piece of input and writes the replies to it.
 fn answer_piece(
     t: &Tables,
+    blank: Records,
     s: State,
     m: &mut [u8],
     tables: &mut [u64],
@@ -67,7 +70,7 @@ fn answer_piece(
     locks: &mut [u64],
     out: &mut [u8],
 ) -> Turn
-    requires { ⌜ now t ≡ tablesOf ⌝ }
+    requires { ⌜ (now t ≡ tablesOf) × (blank ≡ nothing .records) ⌝ }
     requires { ⌜ Lent (length (now m)) (length (now tables)) (length (now line)) (length (now content)) (length (now locks)) (length (now out)) ⌝ }
     requires { ⌜ (s .n ≤ lineRoom) × (s .o ≡ 0) ⌝ }
     ensures { λ r. ⌜ (r .state .n ≤ lineRoom) × (r .state .o ≡ 0) ⌝ }
@@ -88,7 +91,18 @@ fn answer_piece(
             state: s,
         };
     }
-    let fed = program::feed(t, s, &chunk[0..n], m, tables, line, content, locks, out);
+    let fed = program::feed(
+        t,
+        blank,
+        s,
+        &chunk[0..n],
+        m,
+        tables,
+        line,
+        content,
+        locks,
+        out,
+    );
     let o = fed.o;
     let next = program::emptied(fed);
     if !write(out, o) {
@@ -107,6 +121,7 @@ fn answer_piece(
 // number that no run uses up.
 fn read_all(
     t: &Tables,
+    blank: Records,
     s: State,
     m: &mut [u8],
     tables: &mut [u64],
@@ -115,7 +130,7 @@ fn read_all(
     locks: &mut [u64],
     out: &mut [u8],
 ) -> Turn
-    requires { ⌜ now t ≡ tablesOf ⌝ }
+    requires { ⌜ (now t ≡ tablesOf) × (blank ≡ nothing .records) ⌝ }
     requires { ⌜ Lent (length (now m)) (length (now tables)) (length (now line)) (length (now content)) (length (now locks)) (length (now out)) ⌝ }
     requires { ⌜ (s .n ≤ lineRoom) × (s .o ≡ 0) ⌝ }
     ensures { λ r. ⌜ (r .state .n ≤ lineRoom) × (r .state .o ≡ 0) ⌝ }
@@ -130,7 +145,7 @@ fn read_all(
             break;
         }
         let state = last.state;
-        last = answer_piece(t, state, m, tables, line, content, locks, out);
+        last = answer_piece(t, blank, state, m, tables, line, content, locks, out);
         turns -= 1;
     }
     last
@@ -139,6 +154,7 @@ fn read_all(
 // The reply to a last line without newline, where the input ended.
 fn end(
     t: &Tables,
+    blank: Records,
     last: Turn,
     m: &mut [u8],
     tables: &mut [u64],
@@ -147,7 +163,7 @@ fn end(
     locks: &mut [u64],
     out: &mut [u8],
 )
-    requires { ⌜ now t ≡ tablesOf ⌝ }
+    requires { ⌜ (now t ≡ tablesOf) × (blank ≡ nothing .records) ⌝ }
     requires { ⌜ Lent (length (now m)) (length (now tables)) (length (now line)) (length (now content)) (length (now locks)) (length (now out)) ⌝ }
     requires { ⌜ (last .state .n ≤ lineRoom) × (last .state .o ≡ 0) ⌝ }
 {
@@ -155,12 +171,13 @@ fn end(
         return;
     }
     let state = last.state;
-    let s = program::finish(t, state, m, tables, line, content, locks, out);
+    let s = program::finish(t, blank, state, m, tables, line, content, locks, out);
     write(out, s.o);
 }
 
 fn run(
     t: &Tables,
+    blank: Records,
     m: &mut [u8],
     tables: &mut [u64],
     line: &mut [u8],
@@ -168,15 +185,27 @@ fn run(
     locks: &mut [u64],
     out: &mut [u8],
 )
-    requires { ⌜ now t ≡ tablesOf ⌝ }
+    requires { ⌜ (now t ≡ tablesOf) × (blank ≡ nothing .records) ⌝ }
     requires { ⌜ Lent (length (now m)) (length (now tables)) (length (now line)) (length (now content)) (length (now locks)) (length (now out)) ⌝ }
 {
-    let last = read_all(t, program::start(), m, tables, line, content, locks, out);
-    end(t, last, m, tables, line, content, locks, out);
+    let last = read_all(
+        t,
+        blank,
+        program::start(),
+        m,
+        tables,
+        line,
+        content,
+        locks,
+        out,
+    );
+    end(t, blank, last, m, tables, line, content, locks, out);
 }
 
 fn main() {
     let t = crc32::tables();
+    let none = answer::nothing();
+    let blank = none.records;
     let mut m = [0u8; MEDIA];
     let mut tables = [0u64; TABLES];
     let mut line = [0u8; ROOM];
@@ -185,6 +214,7 @@ fn main() {
     let mut out = [0u8; OUT];
     run(
         &t,
+        blank,
         &mut m,
         &mut tables,
         &mut line,

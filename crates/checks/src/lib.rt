@@ -52,6 +52,12 @@ pub fn both(a: bool, b: bool) -> bool
     if a { b } else { false }
 }
 
+pub fn either(a: bool, b: bool) -> bool
+    ensures { λ c. ⌜ c ≡ (a || b) ⌝ }
+{
+    if a { true } else { b }
+}
+
 // R is 1, 3, 5 or 7.
 fn replicas_fit(r: u64) -> bool
     ensures { λ b. ⌜ b ≡ replicasFit r ⌝ }
@@ -98,16 +104,17 @@ fn closing_fits(c: Closing, n: u64) -> bool
     }
 }
 
+// The loops over entries and marks run over all seven: with a fixed count the compiler unrolls them, and copies none to look at it.
 fn entries_fit(entries: [Entry; 7], shape: Shape) -> bool
     requires { ⌜ shape .replicas ≤ 7 ⌝ }
     ensures { λ b. ⌜ b ≡ entriesFit shape entries ⌝ }
 {
     let mut ok = true;
     let r = shape.replicas as usize;
-    for i in 0..r {
+    for i in 0..7 {
         let e = entries[i];
         let c = e.closing;
-        ok = both(ok, closing_fits(c, shape.places));
+        ok = both(ok, either(r <= i, closing_fits(c, shape.places)));
     }
     ok
 }
@@ -118,8 +125,8 @@ fn marks_fit(marks: [u64; 7], shape: Shape) -> bool
 {
     let mut ok = true;
     let r = shape.replicas as usize;
-    for i in 0..r {
-        ok = both(ok, marks[i] <= shape.places);
+    for i in 0..7 {
+        ok = both(ok, either(r <= i, marks[i] <= shape.places));
     }
     ok
 }
@@ -135,19 +142,21 @@ fn server_fits(s: Server, shape: Shape) -> bool
     both(both(both(a, s.start <= n), s.issued <= n), s.acked <= n)
 }
 
-// 2: a mark in the register or a server record is above N.
+// 2: a mark in the register or a server record is above N. The servers are named one by one, for the same reason.
 fn mark_above(records: Records, shape: Shape) -> bool
     requires { ⌜ shape .replicas ≤ 7 ⌝ }
     ensures { λ b. ⌜ b ≡ markAbove shape records ⌝ }
 {
     let register = records.register;
     let entries = register.entries;
-    let mut ok = true;
-    for i in 0..4 {
-        let s = records.servers[i];
-        ok = both(ok, server_fits(s, shape));
-    }
-    !both(entries_fit(entries, shape), ok)
+    let a = records.servers[0];
+    let b = records.servers[1];
+    let c = records.servers[2];
+    let d = records.servers[3];
+    let two = both(server_fits(a, shape), server_fits(b, shape));
+    let three = both(two, server_fits(c, shape));
+    let four = both(three, server_fits(d, shape));
+    !both(entries_fit(entries, shape), four)
 }
 
 fn active(known: bool, dropped: bool) -> bool

@@ -27,7 +27,7 @@ use Rattle.lines.specs.Forms.{Meaning, bad, cluster, asked, lineOf, dataOf, loc
 use Rattle.lines.specs.Texts.{textOf, replyText}
 use Rattle.interpreter.specs.declared.answer.Held.{Held}
 use Rattle.interpreter.specs.Shapes.{accepted}
-use Rattle.interpreter.specs.Answers.{afterOf, unchanged, clusterOf, holding, clusterLine, inputOf, replied, callLine, answerTo}
+use Rattle.interpreter.specs.Answers.{afterOf, unchanged, clusterOf, holding, clusterLine, inputOf, replied, callLine, answerTo, nothing}
 
 -- ---- a cluster line, and a call: what was lent is the first n bytes
 
@@ -42,6 +42,14 @@ pub refused-line : (h : Shape) (p : Held) (m tables : List ℕ) → accepted h �
     → afterOf (record { printed = printed.Reply (answer.Declined refusal.OutsideShape); held = p }) m tables ≡ clusterLine h p m tables
 refused-line h p m tables e =
     sym (ap (λ (b : Bool). cond b (holding (replyText (ok [])) h (fresh h) m) (unchanged (replyText (no 1 [])) p m tables)) e)
+
+-- the records of a fresh cluster are the same whatever its shape
+pub blank-start : (h : Shape) (b r : Records) (y z : List ℕ) → b ≡ nothing .records → _≡_ {A = State} (record { records = r; media = y; tables = z }) (fresh h)
+    → _≡_ {A = State} (record { records = b; media = y; tables = z }) (fresh h)
+unfolding nothing fresh
+blank-start h b r y z e f =
+    let same : b ≡ r = e ∙ sym (ap (λ (x : State). x .records) f) in
+    rw same f
 
 pub accepted-line : (h : Shape) (p : Held) (m tables y z : List ℕ) (n : ℕ) (r : Records) → accepted h ≡ true → length y ≡ n
     → _≡_ {A = State} (record { records = r; media = y; tables = z }) (fresh h)

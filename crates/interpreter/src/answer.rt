@@ -78,9 +78,17 @@ fn size(h: Shape) -> usize
     (h.replicas as usize) * (SLOTS + PLACE * places)
 }
 
-// A cluster line starts afresh, or is refused and leaves the cluster as it was.
-fn cluster_line(t: &Tables, h: Held, shape: Shape, m: &mut [u8], tables: &mut [u64]) -> Next
-    requires { ⌜ now t ≡ tablesOf ⌝ }
+// A cluster line starts afresh, or is refused and leaves the cluster as it was. A fresh cluster's records come in by value, as `blank`:
+// where they are made in the same function as records are passed on, the compiler passes records on number by number.
+fn cluster_line(
+    t: &Tables,
+    blank: Records,
+    h: Held,
+    shape: Shape,
+    m: &mut [u8],
+    tables: &mut [u64],
+) -> Next
+    requires { ⌜ (now t ≡ tablesOf) × (blank ≡ Answers·nothing .records) ⌝ }
     requires { ⌜ length (now m) ≡ mediaLimit ⌝ }
     requires { ⌜ length (now tables) ≡ tablesLength ⌝ }
     ensures { λ n. ⌜ afterOf n (now (m .exit)) (now (tables .exit)) ≡ clusterLine shape h (now (m .entry)) (now (tables .entry)) ⌝ }
@@ -92,12 +100,12 @@ fn cluster_line(t: &Tables, h: Held, shape: Shape, m: &mut [u8], tables: &mut [u
         };
     }
     let n = size(shape);
-    let records = fresh::start(t, shape, &mut m[0..n], tables);
+    fresh::start(t, shape, &mut m[0..n], tables);
     Next {
         printed: Printed::Reply(Answer::Done),
         held: Held {
             shape: shape,
-            records: records,
+            records: blank,
         },
     }
 }
@@ -148,6 +156,7 @@ fn call_line(
 // The answer to a line; what it says beside its call is put into content and locks.
 pub fn answer(
     t: &Tables,
+    blank: Records,
     h: Held,
     line: &[u8],
     m: &mut [u8],
@@ -155,7 +164,7 @@ pub fn answer(
     content: &mut [u8],
     locks: &mut [u64],
 ) -> Next
-    requires { ⌜ now t ≡ tablesOf ⌝ }
+    requires { ⌜ (now t ≡ tablesOf) × (blank ≡ Answers·nothing .records) ⌝ }
     requires { ⌜ length (now m) ≡ mediaLimit ⌝ }
     requires { ⌜ length (now tables) ≡ tablesLength ⌝ }
     requires { ⌜ length (now content) ≡ lineLimit ⌝ }
@@ -169,6 +178,7 @@ pub fn answer(
         },
         Line::Cluster(r, n) => cluster_line(
             t,
+            blank,
             h,
             Shape {
                 replicas: r,

@@ -12,6 +12,7 @@ ghost use Rattle.interpreter.specs.Input.{ended, fed, closed, programOf}
 use crate::answer;
 use crate::answer::Held;
 use crate::input;
+use cluster::Records;
 use crc32::Tables;
 use lines::replies;
 use lines::replies::LONGEST;
@@ -61,6 +62,7 @@ fn put(out: &mut [u8], o: usize, printed: replies::Printed) -> usize
 // Answers the line held.
 fn reply(
     t: &Tables,
+    blank: Records,
     s: State,
     m: &mut [u8],
     tables: &mut [u64],
@@ -69,7 +71,7 @@ fn reply(
     locks: &mut [u64],
     out: &mut [u8],
 ) -> State
-    requires { ⌜ now t ≡ tablesOf ⌝ }
+    requires { ⌜ (now t ≡ tablesOf) × (blank ≡ nothing .records) ⌝ }
     requires { ⌜ Lent (length (now m)) (length (now tables)) (length (now line)) (length (now content)) (length (now locks)) (length (now out)) ⌝ }
     requires { ⌜ (s .n ≤ lineRoom) × (s .o + 24 ≤ outLimit) ⌝ }
     ensures { λ r. ⌜ (r .n ≡ 0) × (r .o ≤ s .o + 24) ⌝ }
@@ -77,7 +79,7 @@ fn reply(
 {
     let n = s.n;
     let before = s.held;
-    let next = answer::answer(t, before, &line[0..n], m, tables, content, locks);
+    let next = answer::answer(t, blank, before, &line[0..n], m, tables, content, locks);
     let held = next.held;
     let printed = next.printed;
     State {
@@ -90,6 +92,7 @@ fn reply(
 // The bytes of a piece of input, line by line.
 pub fn feed(
     t: &Tables,
+    blank: Records,
     s: State,
     chunk: &[u8],
     m: &mut [u8],
@@ -99,7 +102,7 @@ pub fn feed(
     locks: &mut [u64],
     out: &mut [u8],
 ) -> State
-    requires { ⌜ now t ≡ tablesOf ⌝ }
+    requires { ⌜ (now t ≡ tablesOf) × (blank ≡ nothing .records) ⌝ }
     requires { ⌜ Lent (length (now m)) (length (now tables)) (length (now line)) (length (now content)) (length (now locks)) (length (now out)) ⌝ }
     requires { ⌜ (s .n ≤ lineRoom) × (s .o + 24 * length (now chunk) ≤ outLimit) ⌝ }
     ensures { λ r. ⌜ (r .n ≤ lineRoom) × (r .o ≤ outLimit) ⌝ }
@@ -114,7 +117,7 @@ pub fn feed(
             return state;
         }
         i = j + 1;
-        state = reply(t, state, m, tables, line, content, locks, out);
+        state = reply(t, blank, state, m, tables, line, content, locks, out);
     }
     state
 }
@@ -122,6 +125,7 @@ pub fn feed(
 // The end of the input.
 pub fn finish(
     t: &Tables,
+    blank: Records,
     s: State,
     m: &mut [u8],
     tables: &mut [u64],
@@ -130,7 +134,7 @@ pub fn finish(
     locks: &mut [u64],
     out: &mut [u8],
 ) -> State
-    requires { ⌜ now t ≡ tablesOf ⌝ }
+    requires { ⌜ (now t ≡ tablesOf) × (blank ≡ nothing .records) ⌝ }
     requires { ⌜ Lent (length (now m)) (length (now tables)) (length (now line)) (length (now content)) (length (now locks)) (length (now out)) ⌝ }
     requires { ⌜ (s .n ≤ lineRoom) × (s .o + 24 ≤ outLimit) ⌝ }
     ensures { λ r. ⌜ r .o ≤ outLimit ⌝ }
@@ -139,5 +143,5 @@ pub fn finish(
     if s.n == 0 {
         return s;
     }
-    reply(t, s, m, tables, line, content, locks, out)
+    reply(t, blank, s, m, tables, line, content, locks, out)
 }

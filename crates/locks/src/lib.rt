@@ -1,7 +1,8 @@
 // Locks of requests: each has three places in a server's table of 1,024 marks, the lent tables' part of that server.
 ghost use mathlib.Core.Path.{_≡_};
-ghost use Prim.Native.Nat.{_+_, _*_, _%_, _^_, _<_, min};
-ghost use lib.ListN.{length, replicate};
+ghost use mathlib.Core.List.{List, _++_};
+ghost use Prim.Native.Nat.{ℕ, _+_, _*_, _%_, _^_, _≤_, _<_, min};
+ghost use lib.ListN.{length, replicate, drop};
 ghost use Rattle.locks.specs.Locks.{placeOf, estimateOf, markedAt, markedAll, conflict, firstHeld};
 
 // A request's locks against a table. Held: the first that refuses it, and that lock's estimate.
@@ -110,12 +111,24 @@ pub fn mark_all(table: &mut [u64], locks: &[u64], id: u64)
     }
 }
 
-// A mark in every place: the table of a session that starts at it.
+// A row of marks in the places from `at` on. Where all marks of the row and of the places before it are v, those up to its end are.
+fn put_row(table: &mut [u64], at: usize, row: &[u64; 256])
+    requires { ⌜ at + 256 ≤ length (now table) ⌝ }
+    ensures { λ _. ⌜ ((v : ℕ) (old : List ℕ) → now (row .entry) ≡ replicate 256 v → at + 256 ≤ length old → now (table .entry) ≡ replicate at v ++ drop at old → now (table .exit) ≡ replicate (at + 256) v ++ drop (at + 256) old) ⌝ }
+{
+    for i in 0..256 {
+        table[at + i] = row[i];
+    }
+}
+
+// A mark in every place: the table of a session that starts at it. By rows, which the compiler copies with the widest stores there are.
 pub fn fill_table(table: &mut [u64], mark: u64)
     requires { ⌜ length (now table) ≡ 1024 ⌝ }
     ensures { λ _. ⌜ now (table .exit) ≡ replicate 1024 mark ⌝ }
 {
-    for i in 0..1024 {
-        table[i] = mark;
-    }
+    let row = [mark; 256];
+    put_row(table, 0, &row);
+    put_row(table, 256, &row);
+    put_row(table, 512, &row);
+    put_row(table, 768, &row);
 }

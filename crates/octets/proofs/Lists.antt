@@ -2,7 +2,7 @@
 -- Assumes nothing.
 use mathlib.Core.Path.{_≡_, refl, sym, ap, ap₂, _∙_}
 use mathlib.Core.List.{List, [], _∷_, _++_, append-assoc}
-use mathlib.Core.Bool.{true, false}
+use mathlib.Core.Bool.{Bool, true, false, _&&_}
 use Prim.Native.Nat.{ℕ, zero, suc, _+_, _-_, _*_, _/_, _%_, _^_, _<_, _≤_}
 use native.Mathlib.Nat.{le-refl, lt-of-lt-of-le, not-suc-le-zero, pow-suc, pow-le-pow-right}
 use native.Mathlib.Numerals.{add-one}
@@ -11,7 +11,6 @@ use lib.Dec.{lit<}
 use lib.Arith.{digits-lt}
 use lib.ListN.{length, getD, take, drop, set, drop-of-length-le}
 use lib.Seq.{drop-cons, take-suc, take-suc-set, drop-set-lt, getD-set-same, lt-length-set, take-all}
-use borrow.Author.Tests.{eq-eqb, ne-eqb}
 use Rattle.octets.specs.Octets.{beFrom, beBytes, allZero}
 
 pub drop-next : (s : List ℕ) (i : ℕ) → i < length s → drop i s ≡ getD s i 0 ∷ drop (i + 1) s
@@ -60,14 +59,13 @@ unfolding beBytes
 spell-end x zero d h = refl
 spell-end x (suc i) d h = absurd (not-suc-le-zero h)
 
-pub allZero-next : (s : List ℕ) (i : ℕ) → i < length s → getD s i 0 ≡ 0 → allZero (drop i s) ≡ allZero (drop (i + 1) s)
+-- a turn of the test for zeros
+pub allZero-next : (s : List ℕ) (i : ℕ) (a b : Bool) → i < length s → b ≡ (a && eqb (getD s i 0) 0) → (a && allZero (drop i s)) ≡ (b && allZero (drop (i + 1) s))
 unfolding allZero
-allZero-next s i h e = rw (drop-next s i h, eq-eqb (getD s i 0) 0 e)
+allZero-next s i true b h e = rw (e, drop-next s i h)
+allZero-next s i false b h e = rw e
 
-pub allZero-stop : (s : List ℕ) (i : ℕ) → i < length s → (getD s i 0 ≡ 0 → ⊥) → allZero (drop i s) ≡ false
+pub allZero-end : (s : List ℕ) (i : ℕ) (a : Bool) → length s ≤ i → (a && allZero (drop i s)) ≡ a
 unfolding allZero
-allZero-stop s i h e = rw (drop-next s i h, ne-eqb (getD s i 0) 0 e)
-
-pub allZero-end : (s : List ℕ) (i : ℕ) → length s ≤ i → allZero (drop i s) ≡ true
-unfolding allZero
-allZero-end s i h = ap allZero (drop-of-length-le s h)
+allZero-end s i true h = ap allZero (drop-of-length-le s h)
+allZero-end s i false h = refl

@@ -1,6 +1,8 @@
 // Bytes at an offset of a slice, and the big-endian numbers that they stand for.
 ghost use mathlib.Core.Path.{_≡_};
+ghost use mathlib.Core.Bool.{_&&_};
 ghost use Prim.Native.Nat.{_+_, _≤_, _<_, _^_};
+ghost use lib.Dec.{eqb};
 ghost use lib.ListN.{length, replicate};
 ghost use Rattle.octets.specs.Octets.{writeAt, beOf, beBytes, allZero};
 
@@ -71,15 +73,21 @@ pub fn put_be(m: &mut [u8], at: usize, k: usize, v: u64)
     set_be(&mut m[at..e], v);
 }
 
+fn also_zero(ok: bool, b: u8) -> bool
+    ensures { λ r. ⌜ r ≡ (ok && eqb b 0) ⌝ }
+{
+    if ok { b == 0 } else { false }
+}
+
+// Every byte is looked at, also behind one that isn't zero: without a way out of the loop the compiler tests many bytes at once.
 pub fn all_zero(s: &[u8]) -> bool
     ensures { λ r. ⌜ r ≡ allZero (now (s .entry)) ⌝ }
 {
+    let mut ok = true;
     let mut i = 0;
     while i < s.len() {
-        if s[i] != 0 {
-            return false;
-        }
+        ok = also_zero(ok, s[i]);
         i += 1;
     }
-    true
+    ok
 }

@@ -104,7 +104,7 @@ fn marks_after(clean: [bool; 7], d: u64, r: usize) -> [u64; 7]
     out
 }
 
-// The register's entry of a replica after open.
+// The register's entry of a replica after open. One that stays is made anew, which is faster than a copy of an enum with its unused bytes.
 fn entry_after(e: Entry, clean: bool, session: u64, d: u64) -> Entry
     ensures { λ r. ⌜ r ≡ entryAfter e clean session d ⌝ }
 {
@@ -120,7 +120,10 @@ fn entry_after(e: Entry, clean: bool, session: u64, d: u64) -> Entry
             session: e.session,
             closing: Closing::Mark(d),
         },
-        Closing::Mark(_) => e,
+        Closing::Mark(m) => Entry {
+            session: e.session,
+            closing: Closing::Mark(m),
+        },
     }
 }
 

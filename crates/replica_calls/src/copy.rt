@@ -1,6 +1,5 @@
 // copy: a replica's place behind another one's mark is read, and written in that one as it is.
 ghost use mathlib.Core.Path.{_≡_};
-ghost use mathlib.Core.Bool.{_||_};
 ghost use mathlib.Core.List.{List};
 ghost use Prim.Native.Nat.{ℕ, _+_, _*_, _<_, _≤_};
 ghost use lib.ListN.{length};
@@ -20,6 +19,7 @@ use checks::Check;
 use checks::admit_replica;
 use checks::also;
 use checks::declined;
+use checks::either;
 use checks::settle;
 use checks::unchanged_server;
 use cluster::Outcome;
@@ -35,12 +35,6 @@ use delivery::span_of;
 use fate::Fate;
 use storage::operation::Operation;
 use storage::sizes::Place;
-
-fn either(a: bool, b: bool) -> bool
-    ensures { λ c. ⌜ c ≡ (a || b) ⌝ }
-{
-    if a { true } else { b }
-}
 
 // 4: a replica number is not below R, or one is named twice.
 fn not_two(r: u64, from: u64, to: u64) -> bool

@@ -5,6 +5,8 @@ ghost use Prim.Native.Nat.{_≤_};
 ghost use lib.ListN.{length};
 ghost use Rattle.crc32.specs.Tables.{tablesOf};
 ghost use Rattle.interpreter.specs.Shapes.{lineRoom, Lent};
+ghost use Rattle.interpreter.specs.Answers.{nothing};
+use cluster::Records;
 use crc32::Tables;
 use interpreter::program;
 use interpreter::program::State;
@@ -56,6 +58,7 @@ fn write(out: &[u8], o: usize) -> bool
 // Reads a piece of input and writes the replies to it.
 fn answer_piece(
     t: &Tables,
+    blank: Records,
     s: State,
     m: &mut [u8],
     tables: &mut [u64],
@@ -64,7 +67,7 @@ fn answer_piece(
     locks: &mut [u64],
     out: &mut [u8],
 ) -> Turn
-    requires { ⌜ now t ≡ tablesOf ⌝ }
+    requires { ⌜ (now t ≡ tablesOf) × (blank ≡ nothing .records) ⌝ }
     requires { ⌜ Lent (length (now m)) (length (now tables)) (length (now line)) (length (now content)) (length (now locks)) (length (now out)) ⌝ }
     requires { ⌜ (s .n ≤ lineRoom) × (s .o ≡ 0) ⌝ }
     ensures { λ r. ⌜ (r .state .n ≤ lineRoom) × (r .state .o ≡ 0) ⌝ }
@@ -85,7 +88,18 @@ fn answer_piece(
             state: s,
         };
     }
-    let fed = program::feed(t, s, &chunk[0..n], m, tables, line, content, locks, out);
+    let fed = program::feed(
+        t,
+        blank,
+        s,
+        &chunk[0..n],
+        m,
+        tables,
+        line,
+        content,
+        locks,
+        out,
+    );
     let o = fed.o;
     let next = program::emptied(fed);
     if !write(out, o) {
@@ -104,6 +118,7 @@ fn answer_piece(
 // number that no run uses up.
 fn read_all(
     t: &Tables,
+    blank: Records,
     s: State,
     m: &mut [u8],
     tables: &mut [u64],
@@ -112,7 +127,7 @@ fn read_all(
     locks: &mut [u64],
     out: &mut [u8],
 ) -> Turn
-    requires { ⌜ now t ≡ tablesOf ⌝ }
+    requires { ⌜ (now t ≡ tablesOf) × (blank ≡ nothing .records) ⌝ }
     requires { ⌜ Lent (length (now m)) (length (now tables)) (length (now line)) (length (now content)) (length (now locks)) (length (now out)) ⌝ }
     requires { ⌜ (s .n ≤ lineRoom) × (s .o ≡ 0) ⌝ }
     ensures { λ r. ⌜ (r .state .n ≤ lineRoom) × (r .state .o ≡ 0) ⌝ }
@@ -127,7 +142,7 @@ fn read_all(
             break;
         }
         let state = last.state;
-        last = answer_piece(t, state, m, tables, line, content, locks, out);
+        last = answer_piece(t, blank, state, m, tables, line, content, locks, out);
         turns -= 1;
     }
     last
@@ -136,6 +151,7 @@ fn read_all(
 // The reply to a last line without newline, where the input ended.
 fn end(
     t: &Tables,
+    blank: Records,
     last: Turn,
     m: &mut [u8],
     tables: &mut [u64],
@@ -144,7 +160,7 @@ fn end(
     locks: &mut [u64],
     out: &mut [u8],
 )
-    requires { ⌜ now t ≡ tablesOf ⌝ }
+    requires { ⌜ (now t ≡ tablesOf) × (blank ≡ nothing .records) ⌝ }
     requires { ⌜ Lent (length (now m)) (length (now tables)) (length (now line)) (length (now content)) (length (now locks)) (length (now out)) ⌝ }
     requires { ⌜ (last .state .n ≤ lineRoom) × (last .state .o ≡ 0) ⌝ }
 {
@@ -152,12 +168,13 @@ fn end(
         return;
     }
     let state = last.state;
-    let s = program::finish(t, state, m, tables, line, content, locks, out);
+    let s = program::finish(t, blank, state, m, tables, line, content, locks, out);
     write(out, s.o);
 }
 
 fn run(
     t: &Tables,
+    blank: Records,
     m: &mut [u8],
     tables: &mut [u64],
     line: &mut [u8],
@@ -165,15 +182,27 @@ fn run(
     locks: &mut [u64],
     out: &mut [u8],
 )
-    requires { ⌜ now t ≡ tablesOf ⌝ }
+    requires { ⌜ (now t ≡ tablesOf) × (blank ≡ nothing .records) ⌝ }
     requires { ⌜ Lent (length (now m)) (length (now tables)) (length (now line)) (length (now content)) (length (now locks)) (length (now out)) ⌝ }
 {
-    let last = read_all(t, program::start(), m, tables, line, content, locks, out);
-    end(t, last, m, tables, line, content, locks, out);
+    let last = read_all(
+        t,
+        blank,
+        program::start(),
+        m,
+        tables,
+        line,
+        content,
+        locks,
+        out,
+    );
+    end(t, blank, last, m, tables, line, content, locks, out);
 }
 
 fn main() {
     let t = crc32::tables();
+    let none = interpreter::answer::nothing();
+    let blank = none.records;
     let mut m = [0u8; MEDIA];
     let mut tables = [0u64; TABLES];
     let mut line = [0u8; ROOM];
@@ -182,6 +211,7 @@ fn main() {
     let mut out = [0u8; OUT];
     run(
         &t,
+        blank,
         &mut m,
         &mut tables,
         &mut line,

@@ -1,74 +1,79 @@
--- `checks::mark_above`. The invariant: ok says whether the marks of the servers below i fit; the register's entries come last.
-use mathlib.Core.Path.{_≡_}
-use Prim.Native.Nat.{_-_, _≤_}
+-- `checks::mark_above`: the four servers are the test over all of them, written out; the register's entries come last.
 use Rattle.base.specs.Below.{all}
-use Rattle.base.proofs.Below.{all-step}
-use Rattle.cluster.specs.State.{serverAt}
-use Rattle.cluster.specs.Refusals.{serverFits, markAbove}
-use native.Mathlib.Omega.{arith}
+use Rattle.cluster.specs.Refusals.{markAbove}
 use borrow.Author.Needs.{needs}
 use Rattle.checks.proofs.mark_above.Statement.{statement}
 use Rattle.checks.proofs.mark_above.Tie as tie
 
-abbrev Inv-loop : tie.InvT-loop
-Inv-loop shape records entries ok₀ i₀ ok i = (i ≤ 4) × (ok ≡ all (λ j. serverFits shape (serverAt records j)) i)
+element-copy-out-a : tie.Need-element-copy-out-a
+element-copy-out-a c = search needs
 
-abbrev μ-loop : tie.MeasureT-loop
-μ-loop shape records entries ok₀ i₀ ok i = 4 - i
+element-copy-out-b : tie.Need-element-copy-out-b
+element-copy-out-b c = search needs
 
-loop-holds : tie.Need-loop-holds Inv-loop μ-loop
-unfolding all
-loop-holds c = search needs
+element-copy-out-c : tie.Need-element-copy-out-c
+element-copy-out-c c = search needs
 
-mul-s : tie.Need-mul-s Inv-loop μ-loop
-mul-s c = search needs
+element-copy-out-d : tie.Need-element-copy-out-d
+element-copy-out-d c = search needs
 
-element-copy-out-s : tie.Need-element-copy-out-s Inv-loop μ-loop
-element-copy-out-s c = search needs
-
-server-fits-requires : tie.Need-server-fits-requires Inv-loop μ-loop
+server-fits-requires : tie.Need-server-fits-requires
 server-fits-requires c κs = search needs
 
-both-requires : tie.Need-both-requires Inv-loop μ-loop
+server-fits-requires-2 : tie.Need-server-fits-requires-2
+server-fits-requires-2 c κs = search needs
+
+both-requires : tie.Need-both-requires
 both-requires c κs = search needs
 
-add-i : tie.Need-add-i Inv-loop μ-loop
-add-i c = search needs
+server-fits-requires-3 : tie.Need-server-fits-requires-3
+server-fits-requires-3 c κs = search needs
 
-loop-less : tie.Need-loop-less Inv-loop μ-loop
-loop-less c = search needs
-
-loop-again : tie.Need-loop-again Inv-loop μ-loop
-loop-again c = (search needs, all-step _ _ _ _ _ (c .before .before .before .before .loop .inv .1) (cc) (c .both .ensures))
-
-entries-fit-requires : tie.Need-entries-fit-requires Inv-loop μ-loop
-entries-fit-requires c κs = search needs
-
-both-requires-2 : tie.Need-both-requires-2 Inv-loop μ-loop
+both-requires-2 : tie.Need-both-requires-2
 both-requires-2 c κs = search needs
 
-returns : tie.Need-returns Inv-loop μ-loop
-unfolding markAbove
+server-fits-requires-4 : tie.Need-server-fits-requires-4
+server-fits-requires-4 c κs = search needs
+
+both-requires-3 : tie.Need-both-requires-3
+both-requires-3 c κs = search needs
+
+entries-fit-requires : tie.Need-entries-fit-requires
+entries-fit-requires c κs = search needs
+
+both-requires-4 : tie.Need-both-requires-4
+both-requires-4 c κs = search needs
+
+returns : tie.Need-returns
+unfolding markAbove all
 returns c =
-    let at = c .before .before .before .loop in
-    let e : at .i ≡ 4 = omega arith in
-    let h = rw e at (at .inv .1) in
-    rw (c .both2 .ensures, c .before .entries-fit .ensures, h)
+    rw (
+      c .both4 .ensures,
+      c .before .entries-fit .ensures,
+      c .before .before .both3 .ensures,
+      c .before .before .before .server-fits4 .ensures,
+      c .before .before .before .before .both2 .ensures,
+      c .before .before .before .before .before .server-fits3 .ensures,
+      c .before .before .before .before .before .before .both .ensures,
+      c .before .before .before .before .before .before .before .server-fits2 .ensures,
+      c .before .before .before .before .before .before .before .before .server-fits .ensures,
+    )
 
 pub mark-above-spec : {M : Type 1} → statement M
 mark-above-spec =
     tie.close
     (tie.spec
-    Inv-loop
-    μ-loop
-    loop-holds
-    mul-s
-    element-copy-out-s
+    element-copy-out-a
+    element-copy-out-b
+    element-copy-out-c
+    element-copy-out-d
     server-fits-requires
+    server-fits-requires-2
     both-requires
-    add-i
-    loop-less
-    loop-again
-    entries-fit-requires
+    server-fits-requires-3
     both-requires-2
+    server-fits-requires-4
+    both-requires-3
+    entries-fit-requires
+    both-requires-4
     returns)

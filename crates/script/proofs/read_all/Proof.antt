@@ -9,11 +9,11 @@ use Rattle.script.proofs.read_all.Tie as tie
 use Rattle.script.proofs.read_all.Statement.{statement}
 
 abbrev Inv-loop : tie.InvT-loop
-Inv-loop t m₀ tables₀ line₀ content₀ locks₀ out₀ last₀ turns₀ m tables line content locks out last turns =
+Inv-loop t blank m₀ tables₀ line₀ content₀ locks₀ out₀ last₀ turns₀ m tables line content locks out last turns =
     Lent (length m) (length tables) (length line) (length content) (length locks) (length out) × (last .state .n ≤ lineRoom) × (last .state .o ≡ 0)
 
 abbrev μ-loop : tie.MeasureT-loop
-μ-loop t m₀ tables₀ line₀ content₀ locks₀ out₀ last₀ turns₀ m tables line content locks out last turns =
+μ-loop t blank m₀ tables₀ line₀ content₀ locks₀ out₀ last₀ turns₀ m tables line content locks out last turns =
     turns
 
 loop-holds : tie.Need-loop-holds Inv-loop μ-loop

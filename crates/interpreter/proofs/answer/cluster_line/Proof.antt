@@ -3,7 +3,7 @@
 use mathlib.Core.Path.{sym, _∙_}
 use borrow.Author.Tests.{not-true, not-false}
 use Rattle.interpreter.proofs.Accepted.{bounded}
-use Rattle.interpreter.proofs.Answers.{refused-line, accepted-line}
+use Rattle.interpreter.proofs.Answers.{refused-line, blank-start, accepted-line}
 use borrow.Author.Needs.{needs}
 use Rattle.interpreter.proofs.answer.cluster_line.Statement.{statement}
 use Rattle.interpreter.proofs.answer.cluster_line.Tie as tie
@@ -43,9 +43,12 @@ same-length-2 c = search needs
 returns-2 : tie.Need-returns-2
 returns-2 c =
     let a = c .before .before .before .before .before .before .before .before .before .before .before .before .args in
+    let p = c .before .before .before .before .before .before .before .before .before .before .before .before .pre in
     let r = c .before .before .before .before .start in
     let e = sym (c .before .before .before .before .before .before .before .before .before .is-accepted .ensures) ∙ not-false _ (c .before .before .before .before .before .before .before .before .if1 .left) in
-    accepted-line (a .shape) (a .h) (a .m .now) (a .tables .now) (r .last .1 .1 .0) (r .last .1 .1 .1 .0) (c .before .before .before .before .before .before .before .size .result) (r .result) e (search needs) (r .ensures)
+    let y = r .last .1 .1 .0 in
+    let z = r .last .1 .1 .1 .0 in
+    accepted-line (a .shape) (a .h) (a .m .now) (a .tables .now) y z (c .before .before .before .before .before .before .before .size .result) (a .blank) e (search needs) (blank-start (a .shape) (a .blank) (r .result) y z (p .0 .1) (r .ensures))
 
 pub cluster-line-spec : {M : Type 1} → statement M
 cluster-line-spec =

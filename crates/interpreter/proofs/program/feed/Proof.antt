@@ -12,11 +12,11 @@ use Rattle.interpreter.proofs.program.feed.Tie as tie
 use Rattle.interpreter.proofs.program.feed.Statement.{statement}
 
 abbrev Inv-loop : tie.InvT-loop
-Inv-loop t chunk m₀ tables₀ line₀ content₀ locks₀ out₀ state₀ i₀ m tables line content locks out state i =
+Inv-loop t blank chunk m₀ tables₀ line₀ content₀ locks₀ out₀ state₀ i₀ m tables line content locks out state i =
     Lent (length m) (length tables) (length line) (length content) (length locks) (length out) × (state .n ≤ lineRoom) × (state .o + 24 * (length chunk - i) ≤ outLimit) × (i ≤ length chunk) × (fed (programOf (state₀ .n) (state₀ .o) (state₀ .held) line₀ m₀ tables₀ out₀) chunk ≡ fed (programOf (state .n) (state .o) (state .held) line m tables out) (drop i chunk))
 
 abbrev μ-loop : tie.MeasureT-loop
-μ-loop t chunk m₀ tables₀ line₀ content₀ locks₀ out₀ state₀ i₀ m tables line content locks out state i =
+μ-loop t blank chunk m₀ tables₀ line₀ content₀ locks₀ out₀ state₀ i₀ m tables line content locks out state i =
     length chunk - i
 
 loop-holds : tie.Need-loop-holds Inv-loop μ-loop
@@ -78,7 +78,9 @@ reply-requires c κs =
     )
 
 loop-less : tie.Need-loop-less Inv-loop μ-loop
-loop-less c = search needs
+loop-less c =
+    let f = c .before .before .before .before .before .before .before .before .before .before .before .before .before .before .before .before .before .before .before .before .before .before .before .find .ensures in
+    omega (arith, c .before .before .before .before .before .before .before .before .before .before .before .before .before .before .before .before .before .if1 .left, f .0, f .1)
 
 loop-again : tie.Need-loop-again Inv-loop μ-loop
 loop-again c =

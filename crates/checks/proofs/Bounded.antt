@@ -1,7 +1,7 @@
 -- A loop over all seven that tests only what lies below r: a turn of it.
 -- Assumes nothing.
 use mathlib.Core.Path.{_≡_, refl, ap, _∙_}
-use mathlib.Core.Bool.{Bool, true, false, _&&_, _||_}
+use mathlib.Core.Bool.{Bool, true, false, _&&_, _||_, and-true}
 use mathlib.Core.Logic.{⊎-elim}
 use Prim.Native.Nat.{ℕ, _+_, _≤_, _<_, min}
 use lib.Dec.{leb}
@@ -10,10 +10,6 @@ use borrow.Author.Tests.{le-leb, lt-leb}
 use Rattle.base.specs.Below.{all}
 use Rattle.base.proofs.Below.{all-step}
 use Rattle.base.proofs.Tests.{lt-or-le}
-
-and-true : (a : Bool) → (a && true) ≡ a
-and-true true = refl
-and-true false = refl
 
 pub bounded-none : (p : ℕ → Bool) (r : ℕ) → true ≡ all p (min 0 r)
 unfolding all

@@ -1,4 +1,7 @@
 // The numbers among a line's fields.
+ghost use Prim.Native.Nat.{_≤_};
+use crate::cells;
+use crate::cells::Cells;
 use text::line;
 use text::number;
 use text::number::Number;
@@ -34,10 +37,15 @@ pub fn at(line: &[u8], k: usize) -> u64 {
     v
 }
 
-// Whether a line's word is this one, and the line fits that word's form.
-pub fn is(word: &[u8], w: &[u8], line: &[u8], fields: usize, numbers: usize) -> bool {
-    if !check::same(word, w) {
-        return false;
+// The n numbers from field k on become those held from number i on.
+pub fn store(line: &[u8], k: usize, n: usize, w: &mut Cells, i: usize)
+    requires { ⌜ k ≤ 8 ⌝ }
+    requires { ⌜ n ≤ 8 ⌝ }
+    requires { ⌜ i ≤ 500 ⌝ }
+{
+    let mut j = 0;
+    while j < n {
+        cells::put(w, i + j, at(line, k + j));
+        j += 1;
     }
-    fit(line, fields, numbers)
 }

@@ -3,20 +3,23 @@
 // line fits no form. The lines, their forms and the output that stdout must equal come from the other implementation
 // (twin/src/replay.rs; its replay writes both files).
 ghost use mathlib.Core.Path.{_≡_};
+ghost use Prim.Native.Nat.{_+_, _≤_};
+ghost use lib.ListN.{length};
 ghost use Rattle.crc32.specs.Tables.{tablesOf};
-use crate::held::Held;
+use crate::cells::ALL;
+use crate::cells::Cells;
 use crc32::Tables;
 use libc::STDIN_FILENO;
-use stored::print;
 
 mod answer;
-mod beside;
 mod calls;
+mod cells;
 mod fields;
-mod held;
+mod forms;
 mod lent;
 mod perform;
 mod records;
+mod state;
 mod sums;
 
 // The longest line that is answered.
@@ -27,92 +30,70 @@ const MEDIA: usize = 7168;
 
 const TABLES: usize = 4100;
 
-// The program between two bytes of input: how many of a line have come, at most one above what can be held, and the cluster.
-struct State {
-    n: usize,
-    held: Held,
-}
-
-// Answers a line of n bytes; of a line that is too long only the first are held.
-fn finish(t: &Tables, line: &[u8], s: State, m: &mut [u8], tables: &mut [u64]) -> State
-    requires { ⌜ now t ≡ tablesOf ⌝ }
-{
-    let n = s.n;
-    let before = s.held;
-    if line.len() < n {
-        print::text(b"bad\n");
-        return State { n: 0, held: before };
-    }
-    let after = answer::answer(t, &line[0..n], before, m, tables);
-    State { n: 0, held: after }
-}
-
-// One more byte of the input.
-fn put(t: &Tables, line: &mut [u8], s: State, b: u8, m: &mut [u8], tables: &mut [u64]) -> State
-    requires { ⌜ now t ≡ tablesOf ⌝ }
-{
-    if b == b'\n' {
-        return finish(t, line, s, m, tables);
-    }
-    let n = s.n;
-    let mut next = s;
+// One more byte of a line of n: how many there are now, at most one above what can be held.
+fn put(line: &mut [u8], n: usize, b: u8) -> usize {
     if line.len() <= n {
-        next.n = line.len() + 1;
-        return next;
+        return line.len() + 1;
     }
     line[n] = b;
-    next.n = n + 1;
-    next
+    n + 1
 }
 
-// The bytes of one read.
-fn feed(
-    t: &Tables,
-    line: &mut [u8],
-    s: State,
-    chunk: &[u8],
-    m: &mut [u8],
-    tables: &mut [u64],
-) -> State
-    requires { ⌜ now t ≡ tablesOf ⌝ }
+// One more than the length of a line; a line that is too long is answered as an empty one, which is bad as well.
+fn ended(line: &[u8], n: usize) -> usize
+    ensures { λ r. ⌜ r ≤ length (now (line .entry)) + 1 ⌝ }
 {
-    let mut state = s;
-    let mut i = 0;
-    while i < chunk.len() {
-        state = put(t, line, state, chunk[i], m, tables);
-        i += 1;
+    if line.len() < n {
+        return 1;
     }
-    state
+    n + 1
 }
 
-// Reads to the end of the input. A proved loop has to end, and nothing says that the input does: so it counts its turns down,
-// from a number that no run uses up.
-fn run(t: &Tables, line: &mut [u8], m: &mut [u8], tables: &mut [u64])
-    requires { ⌜ now t ≡ tablesOf ⌝ }
+// Reads a line, byte by byte, and answers one more than its length; 0 at the end of the input. A proved loop has to end, and nothing
+// says that the input does: so it counts its turns down, from a number that no run uses up.
+fn read(line: &mut [u8]) -> usize
+    ensures { λ r. ⌜ r ≤ length (now (line .entry)) + 1 ⌝ }
 {
-    let mut chunk = io::large_buffer();
-    let mut state = State {
-        n: 0,
-        held: held::nothing(),
-    };
+    let mut b = [0u8; 1];
+    let mut n = 0;
     let mut turns = u64::MAX;
     while 0 < turns {
-        let got = io::read_full(STDIN_FILENO, &mut chunk);
-        if got == 0 {
+        if io::read_full(STDIN_FILENO, &mut b) == 0 {
             break;
         }
-        state = feed(t, line, state, &chunk[0..got], m, tables);
+        if b[0] == b'\n' {
+            return ended(line, n);
+        }
+        n = put(line, n, b[0]);
         turns -= 1;
     }
-    if 0 < state.n {
-        finish(t, line, state, m, tables);
+    if n == 0 {
+        return 0;
+    }
+    ended(line, n)
+}
+
+// Answers every line.
+fn run(t: &Tables, m: &mut [u8], tables: &mut [u64], w: &mut Cells)
+    requires { ⌜ now t ≡ tablesOf ⌝ }
+{
+    let mut line = [0u8; LIMIT];
+    let mut turns = u64::MAX;
+    while 0 < turns {
+        let n = read(&mut line);
+        if n == 0 {
+            return;
+        }
+        let e = n - 1;
+        answer::answer(t, &line[0..e], m, tables, w);
+        turns -= 1;
     }
 }
 
 fn main() {
     let t = crc32::tables();
-    let mut line = io::buffer();
     let mut m = [0u8; MEDIA];
     let mut tables = [0u64; TABLES];
-    run(&t, &mut line[0..LIMIT], &mut m, &mut tables);
+    let mut w = [0u64; ALL];
+    run(&t, &mut m, &mut tables, &mut w);
 }

@@ -1,17 +1,15 @@
--- `sums::put_entries`. The invariant: the bytes keep their number.
+-- `records::put_entries`. The measure is the number of entries left.
 -- Assumes nothing.
-use mathlib.Core.Path.{_≡_}
 use Prim.Native.Nat.{_-_, _≤_}
-use lib.ListN.{length}
 use borrow.Author.Needs.{needs}
-use Rattle.replay.proofs.sums.put_entries.Statement.{statement}
-use Rattle.replay.proofs.sums.put_entries.Tie as tie
+use Rattle.replay.proofs.records.put_entries.Statement.{statement}
+use Rattle.replay.proofs.records.put_entries.Tie as tie
 
 abbrev Inv-loop : tie.InvT-loop
-Inv-loop out₀ k entries i₀ out i = (i ≤ 7) × (length out ≡ length out₀)
+Inv-loop w₀ k entries i₀ w i = i ≤ 7
 
 abbrev μ-loop : tie.MeasureT-loop
-μ-loop out₀ k entries i₀ out i = 7 - i
+μ-loop w₀ k entries i₀ w i = 7 - i
 
 loop-holds : tie.Need-loop-holds Inv-loop μ-loop
 loop-holds c = search needs
@@ -40,9 +38,6 @@ loop-less c = search needs
 loop-again : tie.Need-loop-again Inv-loop μ-loop
 loop-again c = search needs
 
-same-length : tie.Need-same-length Inv-loop μ-loop
-same-length c = search needs
-
 returns : tie.Need-returns Inv-loop μ-loop
 returns c = search needs
 
@@ -61,5 +56,4 @@ put-entries-spec =
     add-i
     loop-less
     loop-again
-    same-length
     returns)

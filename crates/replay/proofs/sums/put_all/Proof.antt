@@ -1,20 +1,23 @@
--- `feed`. The invariant: what is lent keeps its lengths, and the number of bytes fits its width.
+-- `sums::put_all`. The invariant: what is lent keeps its length.
 -- Assumes nothing.
 use mathlib.Core.Path.{_≡_}
-use Prim.Native.Nat.{_-_, _<_, _^_}
+use Prim.Native.Nat.{_-_}
 use lib.ListN.{length}
 use borrow.Author.Needs.{needs}
-use Rattle.replay.proofs.feed.Statement.{statement}
-use Rattle.replay.proofs.feed.Tie as tie
+use Rattle.replay.proofs.sums.put_all.Statement.{statement}
+use Rattle.replay.proofs.sums.put_all.Tie as tie
 
 abbrev Inv-loop : tie.InvT-loop
-Inv-loop t line₀ chunk m₀ tables₀ state₀ i₀ line m tables state i = (length line ≡ length line₀) × (length m ≡ length m₀) × (length tables ≡ length tables₀) × (length chunk < 2 ^ 64)
+Inv-loop out₀ numbers i₀ out i = length out ≡ length out₀
 
 abbrev μ-loop : tie.MeasureT-loop
-μ-loop t line₀ chunk m₀ tables₀ state₀ i₀ line m tables state i = length chunk - i
+μ-loop out₀ numbers i₀ out i = length numbers - i
 
 loop-holds : tie.Need-loop-holds Inv-loop μ-loop
 loop-holds c = search needs
+
+mul-put : tie.Need-mul-put Inv-loop μ-loop
+mul-put c = search needs
 
 shared-slice-read-put : tie.Need-shared-slice-read-put Inv-loop μ-loop
 shared-slice-read-put c = search needs
@@ -34,28 +37,21 @@ loop-again c = search needs
 same-length : tie.Need-same-length Inv-loop μ-loop
 same-length c = search needs
 
-same-length-2 : tie.Need-same-length-2 Inv-loop μ-loop
-same-length-2 c = search needs
-
-same-length-3 : tie.Need-same-length-3 Inv-loop μ-loop
-same-length-3 c = search needs
-
 returns : tie.Need-returns Inv-loop μ-loop
 returns c = search needs
 
-pub feed-spec : {M : Type 1} → statement M
-feed-spec =
+pub put-all-spec : {M : Type 1} → statement M
+put-all-spec =
     tie.close
     (tie.spec
     Inv-loop
     μ-loop
     loop-holds
+    mul-put
     shared-slice-read-put
     put-requires
     add-i
     loop-less
     loop-again
     same-length
-    same-length-2
-    same-length-3
     returns)

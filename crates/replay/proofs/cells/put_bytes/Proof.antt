@@ -1,17 +1,15 @@
--- `sums::put_held`. The invariant: the bytes keep their number.
+-- `cells::put_bytes`. The measure is how many of the eight are left.
 -- Assumes nothing.
-use mathlib.Core.Path.{_≡_}
 use Prim.Native.Nat.{_-_, _≤_}
-use lib.ListN.{length}
 use borrow.Author.Needs.{needs}
-use Rattle.replay.proofs.sums.put_held.Statement.{statement}
-use Rattle.replay.proofs.sums.put_held.Tie as tie
+use Rattle.replay.proofs.cells.put_bytes.Statement.{statement}
+use Rattle.replay.proofs.cells.put_bytes.Tie as tie
 
 abbrev Inv-loop : tie.InvT-loop
-Inv-loop out₀ k held i₀ out i = (i ≤ 8) × (length out ≡ length out₀)
+Inv-loop w₀ k b i₀ w i = i ≤ 8
 
 abbrev μ-loop : tie.MeasureT-loop
-μ-loop out₀ k held i₀ out i = 8 - i
+μ-loop w₀ k b i₀ w i = 8 - i
 
 loop-holds : tie.Need-loop-holds Inv-loop μ-loop
 loop-holds c = search needs
@@ -37,14 +35,11 @@ loop-less c = search needs
 loop-again : tie.Need-loop-again Inv-loop μ-loop
 loop-again c = search needs
 
-same-length : tie.Need-same-length Inv-loop μ-loop
-same-length c = search needs
-
 returns : tie.Need-returns Inv-loop μ-loop
 returns c = search needs
 
-pub put-held-spec : {M : Type 1} → statement M
-put-held-spec =
+pub put-bytes-spec : {M : Type 1} → statement M
+put-bytes-spec =
     tie.close
     (tie.spec
     Inv-loop
@@ -57,5 +52,4 @@ put-held-spec =
     add-i
     loop-less
     loop-again
-    same-length
     returns)

@@ -1,6 +1,4 @@
 // The answer to a line.
-ghost use mathlib.Core.Path.{_≡_};
-ghost use Rattle.crc32.specs.Tables.{tablesOf};
 use crate::calls;
 use crate::calls::Asked;
 use crate::cells::Cells;
@@ -8,27 +6,23 @@ use crate::forms;
 use crate::forms::CALLS;
 use crate::lent;
 use crate::perform;
-use crc32::Tables;
 use stored::print;
 
-// Whether the line fits the form of its kind.
-fn fits(t: &Tables, line: &[u8], kind: u64, m: &mut [u8], tables: &mut [u64], w: &mut Cells) -> bool
-    requires { ⌜ now t ≡ tablesOf ⌝ }
-{
+// Makes the call that a line asks for, or takes what it hands in; false where it fits no form.
+pub fn fits(line: &[u8], m: &mut [u8], tables: &mut [u64], w: &mut Cells) -> bool {
+    let kind = forms::kind(line);
     if CALLS <= kind {
-        return lent::hand_in(t, line, kind, m, tables, w);
+        return lent::hand_in(line, kind, m, tables, w);
     }
     let Asked::Is(call) = calls::read(line, kind) else {
         return false;
     };
-    perform::perform(t, call, m, tables, w);
+    perform::perform(call, m, tables, w);
     true
 }
 
-pub fn answer(t: &Tables, line: &[u8], m: &mut [u8], tables: &mut [u64], w: &mut Cells)
-    requires { ⌜ now t ≡ tablesOf ⌝ }
-{
-    if !fits(t, line, forms::kind(line), m, tables, w) {
+pub fn told(fits: bool) {
+    if !fits {
         print::text(b"bad\n");
     }
 }

@@ -43,11 +43,19 @@ pub const ALL: usize = 249;
 
 pub type Cells = [u64; 249];
 
-pub fn at(w: &Cells, k: usize) -> u64 {
-    if k < ALL {
+pub fn at(w: &[u64], k: usize) -> u64 {
+    if k < w.len() {
         return w[k];
     }
     0
+}
+
+// What is held from number k on.
+pub fn from(w: &[u64], k: usize) -> &[u64] {
+    if w.len() < k {
+        return w;
+    }
+    &w[k..]
 }
 
 pub fn put(w: &mut Cells, k: usize, v: u64) {
@@ -91,7 +99,7 @@ pub fn put_bytes(w: &mut Cells, k: usize, b: &[u8; 64])
     }
 }
 
-pub fn bytes(w: &Cells, k: usize) -> [u8; 64]
+pub fn bytes(w: &[u64], k: usize) -> [u8; 64]
     requires { ⌜ k ≤ 500 ⌝ }
 {
     let mut b = [0u8; 64];

@@ -6,11 +6,11 @@ use text::line;
 use text::number;
 use text::number::Number;
 
-// Whether the n fields behind the first are numbers.
-fn are_numbers(line: &[u8], n: usize) -> bool {
+// Whether the fields behind the first are numbers, of n all but as many as others.
+fn are_numbers(line: &[u8], n: usize, others: usize) -> bool {
     let mut rest = line;
     let mut left = n;
-    while 0 < left {
+    while others < left {
         let next = line::behind(rest);
         rest = next;
         let Number::Is(_) = number::decimal(line::first(rest)) else {
@@ -21,12 +21,12 @@ fn are_numbers(line: &[u8], n: usize) -> bool {
     true
 }
 
-// Whether a line has so many fields, and behind its first field so many numbers.
-pub fn fit(line: &[u8], fields: usize, numbers: usize) -> bool {
-    if line::count(line) != fields {
+// Whether a line has n fields, and behind its first numbers, where so many in all are none.
+pub fn fit(line: &[u8], n: usize, others: usize) -> bool {
+    if line::count(line) != n {
         return false;
     }
-    are_numbers(line, numbers)
+    are_numbers(line, n, others)
 }
 
 // The number that field k is; 0 where it is none.

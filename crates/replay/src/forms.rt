@@ -39,17 +39,11 @@ fn count(kind: u64) -> usize {
     }
 }
 
-// How many of them are numbers, behind the word.
-fn numbers(kind: u64) -> usize {
+// How many of them are no numbers: the word, and BYTES.
+fn others(kind: u64) -> usize {
     match kind {
-        10 | 20 | 21 => 0,
-        9 | 19 | 22 => 1,
-        11 | 12 | 17 | 24 => 2,
-        23 => 3,
-        0 | 4 | 13 | 16 => 4,
-        1 | 3 | 5 | 6 | 15 => 5,
-        2 | 7 => 6,
-        _ => 7,
+        19..=22 => 2,
+        _ => 1,
     }
 }
 
@@ -62,7 +56,7 @@ pub fn kind(line: &[u8]) -> u64 {
     if k == 18 {
         return k;
     }
-    if fields::fit(line, count(k), numbers(k)) {
+    if fields::fit(line, count(k), others(k)) {
         return k;
     }
     NONE

@@ -2,7 +2,6 @@
 ghost use mathlib.Core.Path.{_≡_};
 ghost use Prim.Native.Nat.{_*_, _≤_};
 ghost use lib.ListN.{length};
-ghost use Rattle.crc32.specs.Tables.{tablesOf};
 ghost use Rattle.storage.specs.Sizes.{mediumSize};
 use crate::cells;
 use crate::cells::Cells;
@@ -12,7 +11,6 @@ use crate::fields;
 use crate::records;
 use crate::state;
 use cluster::Shape;
-use crc32::Tables;
 use storage::sizes::PLACE;
 use storage::sizes::SLOTS;
 use stored::hex;
@@ -37,13 +35,13 @@ fn size(h: Shape) -> usize
 }
 
 // A fresh cluster in slices of its lengths, which are lent from now on.
-fn begin(t: &Tables, shape: Shape, m: &mut [u8], tables: &mut [u64], w: &mut Cells)
-    requires { ⌜ now t ≡ tablesOf ⌝ }
+fn begin(shape: Shape, m: &mut [u8], tables: &mut [u64], w: &mut Cells)
     requires { ⌜ shape .places ≤ 14 ⌝ }
     requires { ⌜ length (now m) ≡ shape .replicas * mediumSize (shape .places) ⌝ }
     requires { ⌜ length (now tables) ≡ 4096 ⌝ }
 {
-    records::put_all(w, fresh::start(t, shape, m, tables));
+    let t = crc32::tables();
+    records::put_all(w, fresh::start(&t, shape, m, tables));
     let n = [
         shape.replicas,
         shape.places,
@@ -54,9 +52,7 @@ fn begin(t: &Tables, shape: Shape, m: &mut [u8], tables: &mut [u64], w: &mut Cel
 }
 
 // fresh, R, N: a fresh cluster of any R up to 7.
-fn fresh_line(t: &Tables, line: &[u8], m: &mut [u8], tables: &mut [u64], w: &mut Cells) -> bool
-    requires { ⌜ now t ≡ tablesOf ⌝ }
-{
+fn fresh_line(line: &[u8], m: &mut [u8], tables: &mut [u64], w: &mut Cells) -> bool {
     let shape = Shape {
         replicas: fields::at(line, 1),
         places: fields::at(line, 2),
@@ -68,7 +64,7 @@ fn fresh_line(t: &Tables, line: &[u8], m: &mut [u8], tables: &mut [u64], w: &mut
     if m.len() < n || tables.len() < TABLES {
         return false;
     }
-    begin(t, shape, &mut m[0..n], &mut tables[0..TABLES], w);
+    begin(shape, &mut m[0..n], &mut tables[0..TABLES], w);
     true
 }
 
@@ -124,21 +120,12 @@ fn table(line: &[u8], tables: &mut [u64]) -> bool {
     true
 }
 
-pub fn hand_in(
-    t: &Tables,
-    line: &[u8],
-    kind: u64,
-    m: &mut [u8],
-    tables: &mut [u64],
-    w: &mut Cells,
-) -> bool
-    requires { ⌜ now t ≡ tablesOf ⌝ }
-{
+pub fn hand_in(line: &[u8], kind: u64, m: &mut [u8], tables: &mut [u64], w: &mut Cells) -> bool {
     match kind {
         17 => lend(line, w, m.len(), tables.len()),
         22 => media(line, m),
         23 => table(line, tables),
-        24 => fresh_line(t, line, m, tables, w),
+        24 => fresh_line(line, m, tables, w),
         _ => state::hand_in(line, kind, w),
     }
 }

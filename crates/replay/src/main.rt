@@ -2,13 +2,10 @@
 // prints nothing, or makes a call, whose reply and check sums of all state are a line of standard output; `bad` is printed where a
 // line fits no form. The lines, their forms and the output that stdout must equal come from the other implementation
 // (twin/src/replay.rs; its replay writes both files).
-ghost use mathlib.Core.Path.{_≡_};
 ghost use Prim.Native.Nat.{_+_, _≤_};
 ghost use lib.ListN.{length};
-ghost use Rattle.crc32.specs.Tables.{tablesOf};
 use crate::cells::ALL;
 use crate::cells::Cells;
-use crc32::Tables;
 use libc::STDIN_FILENO;
 
 mod answer;
@@ -30,12 +27,30 @@ const MEDIA: usize = 7168;
 
 const TABLES: usize = 4100;
 
+// What stands for the end of the input where a byte is read.
+const END: usize = 256;
+
+const NEWLINE: usize = 10;
+
+fn wide(b: u8) -> usize {
+    b as usize
+}
+
+// The next byte of the input.
+fn next() -> usize {
+    let mut b = [0u8; 1];
+    if io::read_full(STDIN_FILENO, &mut b) == 0 {
+        return END;
+    }
+    wide(b[0])
+}
+
 // One more byte of a line of n: how many there are now, at most one above what can be held.
-fn put(line: &mut [u8], n: usize, b: u8) -> usize {
+fn put(line: &mut [u8], n: usize, b: usize) -> usize {
     if line.len() <= n {
         return line.len() + 1;
     }
-    line[n] = b;
+    line[n] = (b % 256) as u8;
     n + 1
 }
 
@@ -49,22 +64,22 @@ fn ended(line: &[u8], n: usize) -> usize
     n + 1
 }
 
-// Reads a line, byte by byte, and answers one more than its length; 0 at the end of the input. A proved loop has to end, and nothing
-// says that the input does: so it counts its turns down, from a number that no run uses up.
+// Reads a line and answers one more than its length; 0 at the end of the input. A proved loop has to end, and nothing says that the
+// input does: so it counts its turns down, from a number that no run uses up.
 fn read(line: &mut [u8]) -> usize
     ensures { λ r. ⌜ r ≤ length (now (line .entry)) + 1 ⌝ }
 {
-    let mut b = [0u8; 1];
     let mut n = 0;
     let mut turns = u64::MAX;
     while 0 < turns {
-        if io::read_full(STDIN_FILENO, &mut b) == 0 {
-            break;
-        }
-        if b[0] == b'\n' {
+        let b = next();
+        if b == NEWLINE {
             return ended(line, n);
         }
-        n = put(line, n, b[0]);
+        if b == END {
+            break;
+        }
+        n = put(line, n, b);
         turns -= 1;
     }
     if n == 0 {
@@ -74,9 +89,7 @@ fn read(line: &mut [u8]) -> usize
 }
 
 // Answers every line.
-fn run(t: &Tables, m: &mut [u8], tables: &mut [u64], w: &mut Cells)
-    requires { ⌜ now t ≡ tablesOf ⌝ }
-{
+fn run(m: &mut [u8], tables: &mut [u64], w: &mut Cells) {
     let mut line = [0u8; LIMIT];
     let mut turns = u64::MAX;
     while 0 < turns {
@@ -85,15 +98,14 @@ fn run(t: &Tables, m: &mut [u8], tables: &mut [u64], w: &mut Cells)
             return;
         }
         let e = n - 1;
-        answer::answer(t, &line[0..e], m, tables, w);
+        answer::told(answer::fits(&line[0..e], m, tables, w));
         turns -= 1;
     }
 }
 
 fn main() {
-    let t = crc32::tables();
     let mut m = [0u8; MEDIA];
     let mut tables = [0u64; TABLES];
     let mut w = [0u64; ALL];
-    run(&t, &mut m, &mut tables, &mut w);
+    run(&mut m, &mut tables, &mut w);
 }

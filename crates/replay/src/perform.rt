@@ -1,7 +1,5 @@
 // A call made on what is held, its reply and the check sums after it.
-ghost use mathlib.Core.Path.{_≡_};
 ghost use Prim.Native.Nat.{_≤_};
-ghost use Rattle.crc32.specs.Tables.{tablesOf};
 use crate::cells;
 use crate::cells::COUNT;
 use crate::cells::Cells;
@@ -19,13 +17,12 @@ use cluster::Outcome;
 use cluster::Records;
 use cluster::Refusal;
 use cluster::Shape;
-use crc32::Tables;
 use stored::print;
 
 // The lock and its estimate stand behind number 15.
 fn print_refusal(why: Refusal) {
-    print::text(b"no\t");
-    print::number(lines::replies::number_of(why));
+    print::text(b"no");
+    print::next(lines::replies::number_of(why));
     if let Refusal::Locked(lock, estimate) = why {
         print::next(lock);
         print::next(estimate);
@@ -93,18 +90,24 @@ fn shape(w: &Cells) -> Shape {
     }
 }
 
+// As many of the bytes as there are.
+fn some(b: &[u8], n: u64) -> &[u8] {
+    let k = least(n, b.len());
+    &b[0..k]
+}
+
 // The call with what lies beside it, as much of each as there is.
 fn apply(call: Call, m: &mut [u8], tables: &mut [u64], w: &Cells) -> Outcome {
     let data = cells::bytes(w, DATA);
     let given = cells::bytes(w, GIVEN);
-    let n = least(cells::at(w, SIZE), 64);
+    let n = cells::at(w, SIZE);
     applied(
         shape(w),
         records::of(w),
         m,
         tables,
         call,
-        &data[0..n],
+        some(&data, n),
         locks(w),
         &given,
     )
@@ -120,21 +123,22 @@ fn keep(o: Outcome, w: &mut Cells) {
     print_bytes(&bytes);
 }
 
-fn make(t: &Tables, call: Call, m: &mut [u8], tables: &mut [u64], w: &mut Cells)
-    requires { ⌜ now t ≡ tablesOf ⌝ }
-{
-    keep(apply(call, m, tables, w), w);
-    print_sum(sums::of_records(t, w));
-    print_sum(crc32::crc(t, m));
-    print_sum(sums::of(t, tables));
+fn print_sums(m: &[u8], tables: &[u64], w: &Cells) {
+    print_sum(sums::of_records(w));
+    print_sum(sums::of_bytes(m));
+    print_sum(sums::of(tables));
     print::text(b"\n");
 }
 
+fn make(call: Call, m: &mut [u8], tables: &mut [u64], w: &mut Cells) {
+    let o = apply(call, m, tables, w);
+    keep(o, w);
+    print_sums(m, tables, w);
+}
+
 // The slices are lent at the lengths that are held.
-pub fn perform(t: &Tables, call: Call, m: &mut [u8], tables: &mut [u64], w: &mut Cells)
-    requires { ⌜ now t ≡ tablesOf ⌝ }
-{
+pub fn perform(call: Call, m: &mut [u8], tables: &mut [u64], w: &mut Cells) {
     let a = least(cells::at(w, LENT), m.len());
     let b = least(cells::at(w, LENT + 1), tables.len());
-    make(t, call, &mut m[0..a], &mut tables[0..b], w);
+    make(call, &mut m[0..a], &mut tables[0..b], w);
 }

@@ -17,7 +17,7 @@ use cluster::Register;
 use cluster::Server;
 
 // Session, 0 for unresolved or another number, closing mark: from number k on.
-fn entry(w: &Cells, k: usize) -> Entry
+fn entry(w: &[u64], k: usize) -> Entry
     requires { ⌜ k ≤ 1000 ⌝ }
 {
     let session = cells::at(w, k);
@@ -33,7 +33,7 @@ fn entry(w: &Cells, k: usize) -> Entry
     }
 }
 
-fn entries(w: &Cells, k: usize) -> [Entry; 7]
+fn entries(w: &[u64], k: usize) -> [Entry; 7]
     requires { ⌜ k ≤ 500 ⌝ }
 {
     let mut out = [entry(w, k); 7];
@@ -46,7 +46,7 @@ fn entries(w: &Cells, k: usize) -> [Entry; 7]
 }
 
 // Of each replica, whether its standing is above a limit: above 0 it is known, above 1 dropped.
-fn above(w: &Cells, k: usize, limit: u64) -> [bool; 7]
+fn above(w: &[u64], k: usize, limit: u64) -> [bool; 7]
     requires { ⌜ k ≤ 500 ⌝ }
 {
     let mut out = [false; 7];
@@ -58,7 +58,7 @@ fn above(w: &Cells, k: usize, limit: u64) -> [bool; 7]
     out
 }
 
-fn marks(w: &Cells, k: usize) -> [u64; 7]
+fn marks(w: &[u64], k: usize) -> [u64; 7]
     requires { ⌜ k ≤ 500 ⌝ }
 {
     let mut out = [0u64; 7];
@@ -83,25 +83,30 @@ fn word(v: u64) -> u32 {
     (v % 4294967296) as u32
 }
 
-fn server(w: &Cells, k: usize) -> Server
-    requires { ⌜ k ≤ 400 ⌝ }
-{
+// A server's, from its first number on.
+fn server(w: &[u64]) -> Server {
     Server {
-        phase: phase(cells::at(w, k)),
-        session: cells::at(w, k + 1),
-        generation: word(cells::at(w, k + 2)),
-        entries: entries(w, k + HANDED),
-        known: above(w, k + REPLICAS, 0),
-        dropped: above(w, k + REPLICAS, 1),
-        marks: marks(w, k + REPLICAS),
-        start: cells::at(w, k + 3),
-        issued: cells::at(w, k + 4),
-        acked: cells::at(w, k + 5),
-        held: cells::bytes(w, k + ISSUED),
+        phase: phase(cells::at(w, 0)),
+        session: cells::at(w, 1),
+        generation: word(cells::at(w, 2)),
+        entries: entries(w, HANDED),
+        known: above(w, REPLICAS, 0),
+        dropped: above(w, REPLICAS, 1),
+        marks: marks(w, REPLICAS),
+        start: cells::at(w, 3),
+        issued: cells::at(w, 4),
+        acked: cells::at(w, 5),
+        held: cells::bytes(w, ISSUED),
     }
 }
 
-pub fn of(w: &Cells) -> Records {
+fn server_at(w: &[u64], i: usize) -> Server
+    requires { ⌜ i ≤ 3 ⌝ }
+{
+    server(cells::from(w, SERVERS + SERVER * i))
+}
+
+pub fn of(w: &[u64]) -> Records {
     let register = Register {
         session: cells::at(w, 0),
         generation: word(cells::at(w, 1)),
@@ -110,10 +115,10 @@ pub fn of(w: &Cells) -> Records {
     Records {
         register: register,
         servers: [
-            server(w, SERVERS),
-            server(w, SERVERS + SERVER),
-            server(w, SERVERS + 2 * SERVER),
-            server(w, SERVERS + 3 * SERVER),
+            server_at(w, 0),
+            server_at(w, 1),
+            server_at(w, 2),
+            server_at(w, 3),
         ],
     }
 }

@@ -1,9 +1,6 @@
 // Check sums: of numbers as eight big-endian bytes each.
-ghost use mathlib.Core.Path.{_≡_};
-ghost use Rattle.crc32.specs.Tables.{tablesOf};
 use crate::cells::Cells;
 use crate::cells::RECORDS;
-use crc32::Tables;
 
 // Room for the bytes of all lock tables that may be lent.
 const ROOM: usize = 65536;
@@ -23,21 +20,23 @@ fn put_all(out: &mut [u8], numbers: &[u64]) {
     }
 }
 
-pub fn of(t: &Tables, numbers: &[u64]) -> u32
-    requires { ⌜ now t ≡ tablesOf ⌝ }
-{
+// The tables are made for each sum: to lend them through the whole program is not worth its proofs.
+pub fn of_bytes(b: &[u8]) -> u32 {
+    let t = crc32::tables();
+    crc32::crc(&t, b)
+}
+
+pub fn of(numbers: &[u64]) -> u32 {
     let mut out = io::large_buffer();
     if ROOM / 8 < numbers.len() {
         return 0;
     }
     put_all(&mut out, numbers);
     let n = 8 * numbers.len();
-    crc32::crc(t, &out[0..n])
+    of_bytes(&out[0..n])
 }
 
-pub fn of_records(t: &Tables, w: &Cells) -> u32
-    requires { ⌜ now t ≡ tablesOf ⌝ }
-{
+pub fn of_records(w: &Cells) -> u32 {
     let all = &w[..];
-    of(t, &all[0..RECORDS])
+    of(&all[0..RECORDS])
 }

@@ -1,4 +1,4 @@
--- `read`. The invariant: there is one byte, and what is lent keeps its length. The measure is the number of turns left.
+-- `read`. The invariant: what is lent keeps its length. The measure is the number of turns left.
 -- Assumes nothing.
 use mathlib.Core.Path.{_≡_}
 use lib.ListN.{length}
@@ -7,22 +7,16 @@ use Rattle.replay.proofs.read.Statement.{statement}
 use Rattle.replay.proofs.read.Tie as tie
 
 abbrev Inv-loop : tie.InvT-loop
-Inv-loop line₀ b₀ n₀ turns₀ line b n turns = (length b ≡ 1) × (length line ≡ length line₀)
+Inv-loop line₀ n₀ turns₀ line n turns = length line ≡ length line₀
 
 abbrev μ-loop : tie.MeasureT-loop
-μ-loop line₀ b₀ n₀ turns₀ line b n turns = turns
+μ-loop line₀ n₀ turns₀ line n turns = turns
 
 loop-holds : tie.Need-loop-holds Inv-loop μ-loop
 loop-holds c = search needs
 
-slice-aggregate-read-full : tie.Need-slice-aggregate-read-full Inv-loop μ-loop
-slice-aggregate-read-full c = search needs
-
-read-full-requires : tie.Need-read-full-requires Inv-loop μ-loop
-read-full-requires c κs = search needs
-
-array-read-if2 : tie.Need-array-read-if2 Inv-loop μ-loop
-array-read-if2 c = search needs
+next-requires : tie.Need-next-requires Inv-loop μ-loop
+next-requires c κs = search needs
 
 ended-requires : tie.Need-ended-requires Inv-loop μ-loop
 ended-requires c κs = search needs
@@ -32,9 +26,6 @@ same-length c = search needs
 
 returns : tie.Need-returns Inv-loop μ-loop
 returns c = search needs
-
-array-read-put : tie.Need-array-read-put Inv-loop μ-loop
-array-read-put c = search needs
 
 put-requires : tie.Need-put-requires Inv-loop μ-loop
 put-requires c κs = search needs
@@ -70,13 +61,10 @@ read-spec =
     Inv-loop
     μ-loop
     loop-holds
-    slice-aggregate-read-full
-    read-full-requires
-    array-read-if2
+    next-requires
     ended-requires
     same-length
     returns
-    array-read-put
     put-requires
     sub-turns
     loop-less

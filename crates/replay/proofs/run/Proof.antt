@@ -7,10 +7,10 @@ use Rattle.replay.proofs.run.Statement.{statement}
 use Rattle.replay.proofs.run.Tie as tie
 
 abbrev Inv-loop : tie.InvT-loop
-Inv-loop t m₀ tables₀ w₀ line₀ turns₀ m tables w line turns = (length m ≡ length m₀) × (length tables ≡ length tables₀) × (length line ≡ 2000)
+Inv-loop m₀ tables₀ w₀ line₀ turns₀ m tables w line turns = (length m ≡ length m₀) × (length tables ≡ length tables₀) × (length line ≡ 2000)
 
 abbrev μ-loop : tie.MeasureT-loop
-μ-loop t m₀ tables₀ w₀ line₀ turns₀ m tables w line turns = turns
+μ-loop m₀ tables₀ w₀ line₀ turns₀ m tables w line turns = turns
 
 loop-holds : tie.Need-loop-holds Inv-loop μ-loop
 loop-holds c = search needs
@@ -33,17 +33,20 @@ returns c = search needs
 sub-e : tie.Need-sub-e Inv-loop μ-loop
 sub-e c = search needs
 
-sub-answer : tie.Need-sub-answer Inv-loop μ-loop
-sub-answer c = search needs
+sub-fits : tie.Need-sub-fits Inv-loop μ-loop
+sub-fits c = search needs
 
-part-answer-start : tie.Need-part-answer-start Inv-loop μ-loop
-part-answer-start c = search needs
+part-fits-start : tie.Need-part-fits-start Inv-loop μ-loop
+part-fits-start c = search needs
 
-part-answer-end : tie.Need-part-answer-end Inv-loop μ-loop
-part-answer-end c = search needs
+part-fits-end : tie.Need-part-fits-end Inv-loop μ-loop
+part-fits-end c = search needs
 
-answer-requires : tie.Need-answer-requires Inv-loop μ-loop
-answer-requires c κs = search needs
+fits-requires : tie.Need-fits-requires Inv-loop μ-loop
+fits-requires c κs = search needs
+
+told-requires : tie.Need-told-requires Inv-loop μ-loop
+told-requires c κs = search needs
 
 sub-turns : tie.Need-sub-turns Inv-loop μ-loop
 sub-turns c = search needs
@@ -76,10 +79,11 @@ run-spec =
     same-length-2
     returns
     sub-e
-    sub-answer
-    part-answer-start
-    part-answer-end
-    answer-requires
+    sub-fits
+    part-fits-start
+    part-fits-end
+    fits-requires
+    told-requires
     sub-turns
     loop-less
     loop-again

@@ -38,7 +38,7 @@ part-begin-end-2 : tie.Need-part-begin-end-2
 part-begin-end-2 c = search needs
 
 begin-requires : tie.Need-begin-requires
-begin-requires c κs = (search needs, (search needs, (search needs, search needs)))
+begin-requires c κs = (search needs, (search needs, search needs))
 
 same-length : tie.Need-same-length
 same-length c = search needs

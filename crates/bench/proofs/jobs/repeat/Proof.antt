@@ -3,26 +3,20 @@
 use mathlib.Core.Path.{_≡_}
 use lib.ListN.{length}
 use borrow.Author.Needs.{needs}
-use Rattle.bench.proofs.jobs.open.Statement.{statement}
-use Rattle.bench.proofs.jobs.open.Tie as tie
+use Rattle.bench.proofs.jobs.repeat.Statement.{statement}
+use Rattle.bench.proofs.jobs.repeat.Tie as tie
 
 abbrev Inv-loop : tie.InvT-loop
-Inv-loop t m₀ tables₀ count ready sum₀ left₀ m tables sum left = (length m ≡ length m₀) × (length tables ≡ length tables₀)
+Inv-loop job r full m₀ tables₀ count sum₀ left₀ m tables sum left = (length m ≡ length m₀) × (length tables ≡ length tables₀)
 
 abbrev μ-loop : tie.MeasureT-loop
-μ-loop t m₀ tables₀ count ready sum₀ left₀ m tables sum left = left
-
-filled-requires : tie.Need-filled-requires Inv-loop μ-loop
-filled-requires c κs = search needs
-
-prepared-requires : tie.Need-prepared-requires Inv-loop μ-loop
-prepared-requires c κs = search needs
+μ-loop job r full m₀ tables₀ count sum₀ left₀ m tables sum left = left
 
 loop-holds : tie.Need-loop-holds Inv-loop μ-loop
 loop-holds c = search needs
 
-open-requires : tie.Need-open-requires Inv-loop μ-loop
-open-requires c κs = search needs
+turn-requires : tie.Need-turn-requires Inv-loop μ-loop
+turn-requires c κs = search needs
 
 wrapping-add-u64-requires : tie.Need-wrapping-add-u64-requires Inv-loop μ-loop
 wrapping-add-u64-requires c κs = search needs
@@ -45,16 +39,14 @@ same-length-2 c = search needs
 returns : tie.Need-returns Inv-loop μ-loop
 returns c = search needs
 
-pub open-spec : {M : Type 1} → statement M
-open-spec =
+pub repeat-spec : {M : Type 1} → statement M
+repeat-spec =
     tie.close
     (tie.spec
     Inv-loop
     μ-loop
-    filled-requires
-    prepared-requires
     loop-holds
-    open-requires
+    turn-requires
     wrapping-add-u64-requires
     sub-left
     loop-less

@@ -3,23 +3,23 @@
 use mathlib.Core.Path.{_≡_}
 use lib.ListN.{length}
 use borrow.Author.Needs.{needs}
-use Rattle.bench.proofs.jobs.marks.Statement.{statement}
-use Rattle.bench.proofs.jobs.marks.Tie as tie
+use Rattle.bench.proofs.jobs.reads.Statement.{statement}
+use Rattle.bench.proofs.jobs.reads.Tie as tie
 
 abbrev Inv-loop : tie.InvT-loop
-Inv-loop t m₀ tables count sum₀ left₀ m sum left = length m ≡ length m₀
+Inv-loop job m₀ count t sum₀ left₀ m sum left = length m ≡ length m₀
 
 abbrev μ-loop : tie.MeasureT-loop
-μ-loop t m₀ tables count sum₀ left₀ m sum left = left
+μ-loop job m₀ count t sum₀ left₀ m sum left = left
 
-filled-requires : tie.Need-filled-requires Inv-loop μ-loop
-filled-requires c κs = search needs
+tables-requires : tie.Need-tables-requires Inv-loop μ-loop
+tables-requires c κs = search needs
 
 loop-holds : tie.Need-loop-holds Inv-loop μ-loop
 loop-holds c = search needs
 
-marks-requires : tie.Need-marks-requires Inv-loop μ-loop
-marks-requires c κs = search needs
+read-requires : tie.Need-read-requires Inv-loop μ-loop
+read-requires c κs = search needs
 
 wrapping-add-u64-requires : tie.Need-wrapping-add-u64-requires Inv-loop μ-loop
 wrapping-add-u64-requires c κs = search needs
@@ -36,25 +36,21 @@ loop-again c = search needs
 same-length : tie.Need-same-length Inv-loop μ-loop
 same-length c = search needs
 
-same-length-2 : tie.Need-same-length-2 Inv-loop μ-loop
-same-length-2 c = search needs
-
 returns : tie.Need-returns Inv-loop μ-loop
 returns c = search needs
 
-pub marks-spec : {M : Type 1} → statement M
-marks-spec =
+pub reads-spec : {M : Type 1} → statement M
+reads-spec =
     tie.close
     (tie.spec
     Inv-loop
     μ-loop
-    filled-requires
+    tables-requires
     loop-holds
-    marks-requires
+    read-requires
     wrapping-add-u64-requires
     sub-left
     loop-less
     loop-again
     same-length
-    same-length-2
     returns)

@@ -4,23 +4,23 @@ use mathlib.Core.Path.{_≡_}
 use Prim.Native.Nat.{_-_}
 use lib.ListN.{length}
 use borrow.Author.Needs.{needs}
-use Rattle.bench.proofs.stage.prepared.Statement.{statement}
-use Rattle.bench.proofs.stage.prepared.Tie as tie
+use Rattle.bench.proofs.stage.to_all.Statement.{statement}
+use Rattle.bench.proofs.stage.to_all.Tie as tie
 
 abbrev Inv-loop : tie.InvT-loop
-Inv-loop m₀ tables₀ server next₀ i₀ m tables next i = (length m ≡ length m₀) × (length tables ≡ length tables₀)
+Inv-loop m₀ tables₀ server sends next₀ i₀ m tables next i = (length m ≡ length m₀) × (length tables ≡ length tables₀)
 
 abbrev μ-loop : tie.MeasureT-loop
-μ-loop m₀ tables₀ server next₀ i₀ m tables next i = 7 - i
-
-after-requires : tie.Need-after-requires Inv-loop μ-loop
-after-requires c κs = search needs
+μ-loop m₀ tables₀ server sends next₀ i₀ m tables next i = 7 - i
 
 loop-holds : tie.Need-loop-holds Inv-loop μ-loop
 loop-holds c = search needs
 
-after-requires-2 : tie.Need-after-requires-2 Inv-loop μ-loop
-after-requires-2 c κs = search needs
+message-requires : tie.Need-message-requires Inv-loop μ-loop
+message-requires c κs = search needs
+
+after-requires : tie.Need-after-requires Inv-loop μ-loop
+after-requires c κs = search needs
 
 add-i : tie.Need-add-i Inv-loop μ-loop
 add-i c = search needs
@@ -40,15 +40,15 @@ same-length-2 c = search needs
 returns : tie.Need-returns Inv-loop μ-loop
 returns c = search needs
 
-pub prepared-spec : {M : Type 1} → statement M
-prepared-spec =
+pub to-all-spec : {M : Type 1} → statement M
+to-all-spec =
     tie.close
     (tie.spec
     Inv-loop
     μ-loop
-    after-requires
     loop-holds
-    after-requires-2
+    message-requires
+    after-requires
     add-i
     loop-less
     loop-again

@@ -14,7 +14,6 @@ use crate::sums;
 use cluster::Answer;
 use cluster::Call;
 use cluster::Outcome;
-use cluster::Records;
 use cluster::Refusal;
 use cluster::Shape;
 use stored::print;
@@ -69,20 +68,6 @@ fn locks(w: &Cells) -> &[u64] {
     &all[LOCKS..e]
 }
 
-// The one call of the journal, alone: what its contract says is not needed here.
-fn applied(
-    shape: Shape,
-    records: Records,
-    m: &mut [u8],
-    tables: &mut [u64],
-    call: Call,
-    data: &[u8],
-    locks: &[u64],
-    given: &[u8; 64],
-) -> Outcome {
-    journal::apply::apply(shape, records, m, tables, call, data, locks, given)
-}
-
 fn shape(w: &Cells) -> Shape {
     Shape {
         replicas: cells::at(w, SHAPE),
@@ -101,7 +86,7 @@ fn apply(call: Call, m: &mut [u8], tables: &mut [u64], w: &Cells) -> Outcome {
     let data = cells::bytes(w, DATA);
     let given = cells::bytes(w, GIVEN);
     let n = cells::at(w, SIZE);
-    applied(
+    journal::apply::apply(
         shape(w),
         records::of(w),
         m,

@@ -8,7 +8,6 @@ use crate::cells::ISSUED;
 use crate::cells::REPLICAS;
 use crate::cells::SERVER;
 use crate::cells::SERVERS;
-use crate::cells::put;
 use cluster::Closing;
 use cluster::Entry;
 use cluster::Phase;
@@ -123,21 +122,14 @@ pub fn of(w: &[u64]) -> Records {
     }
 }
 
-// 0 for unresolved or 1, closing mark.
-fn closing(c: Closing) -> [u64; 2] {
-    match c {
-        Closing::Unresolved => [0, 0],
-        Closing::Mark(v) => [1, v],
-    }
-}
-
-fn put_entry(w: &mut Cells, k: usize, e: Entry)
-    requires { ⌜ k ≤ 400 ⌝ }
-{
-    put(w, k, e.session);
+// Session, 0 for unresolved or 1, closing mark.
+fn entry_numbers(e: Entry) -> [u64; 3] {
+    let session = e.session;
     let c = e.closing;
-    let n = closing(c);
-    cells::put_run(w, k + 1, &n);
+    match c {
+        Closing::Unresolved => [session, 0, 0],
+        Closing::Mark(v) => [session, 1, v],
+    }
 }
 
 fn put_entries(w: &mut Cells, k: usize, entries: [Entry; 7])
@@ -145,7 +137,8 @@ fn put_entries(w: &mut Cells, k: usize, entries: [Entry; 7])
 {
     let mut i = 0;
     while i < 7 {
-        put_entry(w, k + 3 * i, entries[i]);
+        let n = entry_numbers(entries[i]);
+        cells::put_run(w, k + 3 * i, &n);
         i += 1;
     }
 }

@@ -14,20 +14,26 @@ abbrev μ-loop : tie.MeasureT-loop
 loop-holds : tie.Need-loop-holds Inv-loop μ-loop
 loop-holds c = search needs
 
-mul-put-entry : tie.Need-mul-put-entry Inv-loop μ-loop
-mul-put-entry c = search needs
+mul-entry-numbers : tie.Need-mul-entry-numbers Inv-loop μ-loop
+mul-entry-numbers c = search needs
 
-add-put-entry : tie.Need-add-put-entry Inv-loop μ-loop
-add-put-entry c = search needs
+array-copy-out-entry-numbers : tie.Need-array-copy-out-entry-numbers Inv-loop μ-loop
+array-copy-out-entry-numbers c = search needs
 
-mul-put-entry-2 : tie.Need-mul-put-entry-2 Inv-loop μ-loop
-mul-put-entry-2 c = search needs
+entry-numbers-requires : tie.Need-entry-numbers-requires Inv-loop μ-loop
+entry-numbers-requires c κs = search needs
 
-array-copy-out-put-entry : tie.Need-array-copy-out-put-entry Inv-loop μ-loop
-array-copy-out-put-entry c = search needs
+mul-put-run : tie.Need-mul-put-run Inv-loop μ-loop
+mul-put-run c = search needs
 
-put-entry-requires : tie.Need-put-entry-requires Inv-loop μ-loop
-put-entry-requires c κs = search needs
+add-put-run : tie.Need-add-put-run Inv-loop μ-loop
+add-put-run c = search needs
+
+slice-aggregate-put-run : tie.Need-slice-aggregate-put-run Inv-loop μ-loop
+slice-aggregate-put-run c = search needs
+
+put-run-requires : tie.Need-put-run-requires Inv-loop μ-loop
+put-run-requires c κs = search needs
 
 add-i : tie.Need-add-i Inv-loop μ-loop
 add-i c = search needs
@@ -48,11 +54,13 @@ put-entries-spec =
     Inv-loop
     μ-loop
     loop-holds
-    mul-put-entry
-    add-put-entry
-    mul-put-entry-2
-    array-copy-out-put-entry
-    put-entry-requires
+    mul-entry-numbers
+    array-copy-out-entry-numbers
+    entry-numbers-requires
+    mul-put-run
+    add-put-run
+    slice-aggregate-put-run
+    put-run-requires
     add-i
     loop-less
     loop-again

@@ -69,7 +69,7 @@ fn answer_all(input: &[u8], m: &mut [u8], tables: &mut [u64]) {
 }
 
 // All the input is read at once.
-fn run(m: &mut [u8], tables: &mut [u64]) {
+fn run(m: &mut [u8; MEDIA], tables: &mut [u64; TABLES]) {
     let mut input = io::buffer();
     let n = io::read_full(STDIN_FILENO, &mut input);
     answer_all(&input[0..n], m, tables);

@@ -1,4 +1,6 @@
 // The answer to a line.
+use crate::MEDIA;
+use crate::TABLES;
 use crate::calls;
 use crate::calls::Asked;
 use crate::cells::Cells;
@@ -9,7 +11,7 @@ use crate::perform;
 use stored::print;
 
 // Makes the call that a line asks for, or takes what it hands in; false where it fits no form.
-pub fn fits(line: &[u8], m: &mut [u8], tables: &mut [u64], w: &mut Cells) -> bool {
+pub fn fits(line: &[u8], m: &mut [u8; MEDIA], tables: &mut [u64; TABLES], w: &mut Cells) -> bool {
     let kind = forms::kind(line);
     if CALLS <= kind {
         return lent::hand_in(line, kind, m, tables, w);

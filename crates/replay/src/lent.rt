@@ -69,11 +69,11 @@ fn fresh_line(line: &[u8], m: &mut [u8], tables: &mut [u64], w: &mut Cells) -> b
 }
 
 // lend, bytes of the media, marks of the lock tables: the lengths of the slices lent from now on.
-fn lend(line: &[u8], w: &mut Cells, media: usize, tables: usize) -> bool {
-    if (media as u64) < fields::at(line, 1) {
+fn lend(line: &[u8], w: &mut Cells) -> bool {
+    if (crate::MEDIA as u64) < fields::at(line, 1) {
         return false;
     }
-    if (tables as u64) < fields::at(line, 2) {
+    if (crate::TABLES as u64) < fields::at(line, 2) {
         return false;
     }
     fields::store(line, 1, 2, w, LENT);
@@ -120,9 +120,15 @@ fn table(line: &[u8], tables: &mut [u64]) -> bool {
     true
 }
 
-pub fn hand_in(line: &[u8], kind: u64, m: &mut [u8], tables: &mut [u64], w: &mut Cells) -> bool {
+pub fn hand_in(
+    line: &[u8],
+    kind: u64,
+    m: &mut [u8; crate::MEDIA],
+    tables: &mut [u64; crate::TABLES],
+    w: &mut Cells,
+) -> bool {
     match kind {
-        17 => lend(line, w, m.len(), tables.len()),
+        17 => lend(line, w),
         22 => media(line, m),
         23 => table(line, tables),
         24 => fresh_line(line, m, tables, w),

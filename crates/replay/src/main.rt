@@ -23,9 +23,9 @@ mod sums;
 const LIMIT: usize = 2000;
 
 // Bytes for media and marks for lock tables, some more than any cluster here has: a call can be lent too much.
-const MEDIA: usize = 7168;
+pub const MEDIA: usize = 7168;
 
-const TABLES: usize = 4100;
+pub const TABLES: usize = 4100;
 
 // What stands for the end of the input where a byte is read.
 const END: usize = 256;
@@ -89,7 +89,7 @@ fn read(line: &mut [u8]) -> usize
 }
 
 // Answers every line.
-fn run(m: &mut [u8], tables: &mut [u64], w: &mut Cells) {
+fn run(m: &mut [u8; MEDIA], tables: &mut [u64; TABLES], w: &mut Cells) {
     let mut line = [0u8; LIMIT];
     let mut turns = u64::MAX;
     while 0 < turns {

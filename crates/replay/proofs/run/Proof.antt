@@ -1,4 +1,4 @@
--- `run`. The invariant: what is lent keeps its lengths. The measure is the number of turns left.
+-- `run`. The invariant: the line keeps its length. The measure is the number of turns left.
 -- Assumes nothing.
 use mathlib.Core.Path.{_≡_}
 use lib.ListN.{length}
@@ -7,7 +7,7 @@ use Rattle.replay.proofs.run.Statement.{statement}
 use Rattle.replay.proofs.run.Tie as tie
 
 abbrev Inv-loop : tie.InvT-loop
-Inv-loop m₀ tables₀ w₀ line₀ turns₀ m tables w line turns = (length m ≡ length m₀) × (length tables ≡ length tables₀) × (length line ≡ 2000)
+Inv-loop m₀ tables₀ w₀ line₀ turns₀ m tables w line turns = length line ≡ 2000
 
 abbrev μ-loop : tie.MeasureT-loop
 μ-loop m₀ tables₀ w₀ line₀ turns₀ m tables w line turns = turns
@@ -20,12 +20,6 @@ slice-aggregate-read c = search needs
 
 read-requires : tie.Need-read-requires Inv-loop μ-loop
 read-requires c κs = search needs
-
-same-length : tie.Need-same-length Inv-loop μ-loop
-same-length c = search needs
-
-same-length-2 : tie.Need-same-length-2 Inv-loop μ-loop
-same-length-2 c = search needs
 
 returns : tie.Need-returns Inv-loop μ-loop
 returns c = search needs
@@ -57,12 +51,6 @@ loop-less c = search needs
 loop-again : tie.Need-loop-again Inv-loop μ-loop
 loop-again c = search needs
 
-same-length-3 : tie.Need-same-length-3 Inv-loop μ-loop
-same-length-3 c = search needs
-
-same-length-4 : tie.Need-same-length-4 Inv-loop μ-loop
-same-length-4 c = search needs
-
 returns-2 : tie.Need-returns-2 Inv-loop μ-loop
 returns-2 c = search needs
 
@@ -75,8 +63,6 @@ run-spec =
     loop-holds
     slice-aggregate-read
     read-requires
-    same-length
-    same-length-2
     returns
     sub-e
     sub-fits
@@ -87,6 +73,4 @@ run-spec =
     sub-turns
     loop-less
     loop-again
-    same-length-3
-    same-length-4
     returns-2)

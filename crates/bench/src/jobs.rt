@@ -1,7 +1,7 @@
-// The jobs: each sets a cluster up, and then makes its turn as often as asked. A turn changes a byte that its result does not depend
-// on, or undoes what the turn before did, so that none can be saved.
-ghost use mathlib.Core.Path.{_≡_};
-ghost use Rattle.crc32.specs.Tables.{tablesOf};
+// The jobs by their numbers: 0 the CRC of 64 KB, 1 the marks of seven full media, 2 one send of record 1,000 to a replica that holds
+// 999, 3 one prepare that cuts a full log of 1,000 to 500, 4 one open over seven replicas that all hold 1,000. Each sets a cluster
+// up, and then makes its turn as often as asked. A turn changes a byte that its result does not depend on, or undoes what the turn
+// before did, which counts, so that none can be saved.
 use crate::stage;
 use crate::turns;
 use cluster::Call;
@@ -9,48 +9,15 @@ use cluster::Closing;
 use cluster::Entry;
 use cluster::Records;
 use cluster::put_server;
-use crc32::Tables;
 use fate::Fate;
 use std::num::wrapping_add_u64;
 
-// The CRC of 64 KB of a fresh cluster's media.
-pub fn crc(t: &Tables, m: &mut [u8], tables: &mut [u64], count: u64) -> u64
-    requires { ⌜ now t ≡ tablesOf ⌝ }
-{
-    stage::begun(t, m, tables);
+fn reads(job: u64, m: &mut [u8], count: u64) -> u64 {
+    let t = crc32::tables();
     let mut sum: u64 = 0;
     let mut left = count;
     while 0 < left {
-        sum = wrapping_add_u64(sum, turns::crc(t, m, left));
-        left -= 1;
-    }
-    sum
-}
-
-// The marks of seven full media.
-pub fn marks(t: &Tables, m: &mut [u8], tables: &mut [u64], count: u64) -> u64
-    requires { ⌜ now t ≡ tablesOf ⌝ }
-{
-    stage::filled(t, m, tables, 1000);
-    let mut sum: u64 = 0;
-    let mut left = count;
-    while 0 < left {
-        sum = wrapping_add_u64(sum, turns::marks(t, m, left));
-        left -= 1;
-    }
-    sum
-}
-
-// One send of record 1,000 to a replica that holds 999.
-pub fn send(t: &Tables, m: &mut [u8], tables: &mut [u64], count: u64) -> u64
-    requires { ⌜ now t ≡ tablesOf ⌝ }
-{
-    let before = stage::filled(t, m, tables, 999);
-    let ready = stage::issued(before, m, tables);
-    let mut sum: u64 = 0;
-    let mut left = count;
-    while 0 < left {
-        sum = wrapping_add_u64(sum, turns::send(ready, m, tables));
+        sum = wrapping_add_u64(sum, turns::read(&t, job, m, left));
         left -= 1;
     }
     sum
@@ -67,34 +34,68 @@ fn closed(r: Records, m: &mut [u8], tables: &mut [u64]) -> Records {
     put_server(taken, 1, s)
 }
 
-// One prepare that cuts a full log of 1,000 to 500; the full medium is put back before each, which counts.
-pub fn prepare(t: &Tables, m: &mut [u8], tables: &mut [u64], count: u64) -> u64
-    requires { ⌜ now t ≡ tablesOf ⌝ }
-{
-    let mut full = io::large_buffer();
-    let before = stage::filled(t, m, tables, 1000);
-    turns::put_by(m, &mut full);
-    let ready = closed(before, m, tables);
+// How many records a job's cluster stores first.
+fn records(job: u64) -> u64 {
+    match job {
+        2 => 999,
+        _ => 1000,
+    }
+}
+
+// The records that each turn of a job's call starts from.
+fn ready(job: u64, r: Records, m: &mut [u8], tables: &mut [u64]) -> Records {
+    match job {
+        2 => stage::issued(r, m, tables),
+        3 => closed(r, m, tables),
+        _ => stage::prepared(r, m, tables, 1),
+    }
+}
+
+fn call(job: u64) -> Call {
+    match job {
+        2 => Call::Send(0, 0, Fate::Answered),
+        3 => Call::Prepare(1, 0, Fate::Answered),
+        _ => Call::Open(1, Fate::Answered),
+    }
+}
+
+fn turn(job: u64, r: Records, full: &[u8], m: &mut [u8], tables: &mut [u64]) -> u64 {
+    turns::undo(job, full, m);
+    stage::value(stage::make(r, m, tables, call(job)))
+}
+
+fn repeat(job: u64, r: Records, full: &[u8], m: &mut [u8], tables: &mut [u64], count: u64) -> u64 {
     let mut sum: u64 = 0;
     let mut left = count;
     while 0 < left {
-        sum = wrapping_add_u64(sum, turns::prepare(ready, &full, m, tables));
+        sum = wrapping_add_u64(sum, turn(job, r, full, m, tables));
         left -= 1;
     }
     sum
 }
 
-// One open over seven replicas that all hold 1,000.
-pub fn open(t: &Tables, m: &mut [u8], tables: &mut [u64], count: u64) -> u64
-    requires { ⌜ now t ≡ tablesOf ⌝ }
-{
-    let before = stage::filled(t, m, tables, 1000);
-    let ready = stage::prepared(before, m, tables, 1);
-    let mut sum: u64 = 0;
-    let mut left = count;
-    while 0 < left {
-        sum = wrapping_add_u64(sum, turns::open(ready, m, tables));
-        left -= 1;
+fn calls(job: u64, m: &mut [u8], tables: &mut [u64], count: u64) -> u64 {
+    let mut full = io::large_buffer();
+    let filled = stage::filled(m, tables, records(job));
+    turns::put_by(m, &mut full);
+    let r = ready(job, filled, m, tables);
+    repeat(job, r, &full, m, tables, count)
+}
+
+// The media that a job reads: fresh, or full.
+fn set_up(job: u64, m: &mut [u8], tables: &mut [u64]) {
+    if job == 0 {
+        stage::begun(m, tables);
+        return;
     }
-    sum
+    stage::filled(m, tables, 1000);
+}
+
+// What a job done so often comes to.
+pub fn total(job: u64, m: &mut [u8], tables: &mut [u64], count: u64) -> u64 {
+    if 1 < job {
+        return calls(job, m, tables, count);
+    }
+    set_up(job, m, tables);
+    reads(job, m, count)
 }

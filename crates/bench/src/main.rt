@@ -1,11 +1,8 @@
 // Work to be timed from outside. Each line of standard input names a job and how often it is done; the answer to it is one number that
 // depends on every turn. Setting the job up takes the same time whatever the count, so the time of one turn is found by two counts.
 // What stdout must equal comes from the other implementation (twin/src/jobs.rs), which does the same jobs.
-ghost use mathlib.Core.Path.{_≡_};
-ghost use Rattle.crc32.specs.Tables.{tablesOf};
 use crate::stage::MEDIA;
 use crate::stage::TABLES;
-use crc32::Tables;
 use libc::STDIN_FILENO;
 use libc::STDOUT_FILENO;
 use text::line;
@@ -20,64 +17,50 @@ fn say(text: &[u8]) {
     io::write_all(STDOUT_FILENO, text);
 }
 
-// A job's number; 5 where there is none of this name.
-fn job(name: &[u8]) -> u64 {
-    if check::same(name, b"crc") {
-        return 0;
+// How many jobs there are.
+const JOBS: u64 = 5;
+
+// The number of the job of this name, from 0; JOBS where there is none.
+fn job(names: &[u8], name: &[u8]) -> u64 {
+    let mut rest = names;
+    let mut i = 0;
+    while i < JOBS {
+        if check::same(line::first(rest), name) {
+            return i;
+        }
+        let next = line::behind(rest);
+        rest = next;
+        i += 1;
     }
-    if check::same(name, b"marks") {
-        return 1;
-    }
-    if check::same(name, b"send") {
-        return 2;
-    }
-    if check::same(name, b"prepare") {
-        return 3;
-    }
-    if check::same(name, b"open") {
-        return 4;
-    }
-    5
+    i
 }
 
-// What a job done so often comes to.
-fn total(t: &Tables, job: u64, count: u64, m: &mut [u8], tables: &mut [u64]) -> u64
-    requires { ⌜ now t ≡ tablesOf ⌝ }
-{
-    match job {
-        0 => jobs::crc(t, m, tables, count),
-        1 => jobs::marks(t, m, tables, count),
-        2 => jobs::send(t, m, tables, count),
-        3 => jobs::prepare(t, m, tables, count),
-        _ => jobs::open(t, m, tables, count),
-    }
-}
-
-fn answer(t: &Tables, text: &[u8], m: &mut [u8], tables: &mut [u64]) -> bool
-    requires { ⌜ now t ≡ tablesOf ⌝ }
-{
+fn answer(text: &[u8], m: &mut [u8], tables: &mut [u64]) -> bool {
     let Number::Is(count) = number::decimal(line::field(text, 1)) else {
         return false;
     };
-    let j = job(line::field(text, 0));
-    if 4 < j {
+    let j = job(b"crc\tmarks\tsend\tprepare\topen", line::field(text, 0));
+    if j == JOBS {
         return false;
     }
-    io::print_decimal(STDOUT_FILENO, total(t, j, count, m, tables));
+    io::print_decimal(STDOUT_FILENO, jobs::total(j, m, tables, count));
     true
 }
 
+// The answer, or that there is none, ends its line.
+fn ended(fits: bool) {
+    if !fits {
+        say(b"bad");
+    }
+    say(b"\n");
+}
+
 // The lines, each ended by a newline.
-fn answer_all(t: &Tables, input: &[u8], m: &mut [u8], tables: &mut [u64])
-    requires { ⌜ now t ≡ tablesOf ⌝ }
-{
+fn answer_all(input: &[u8], m: &mut [u8], tables: &mut [u64]) {
     let mut i = 0;
     while i < input.len() {
         let j = bytes::scan::find(input, i, input.len(), b'\n');
-        if !answer(t, &input[i..j], m, tables) {
-            say(b"bad");
-        }
-        say(b"\n");
+        ended(answer(&input[i..j], m, tables));
         if j == input.len() {
             return;
         }
@@ -86,17 +69,14 @@ fn answer_all(t: &Tables, input: &[u8], m: &mut [u8], tables: &mut [u64])
 }
 
 // All the input is read at once.
-fn run(t: &Tables, m: &mut [u8], tables: &mut [u64])
-    requires { ⌜ now t ≡ tablesOf ⌝ }
-{
+fn run(m: &mut [u8; MEDIA], tables: &mut [u64; TABLES]) {
     let mut input = io::buffer();
     let n = io::read_full(STDIN_FILENO, &mut input);
-    answer_all(t, &input[0..n], m, tables);
+    answer_all(&input[0..n], m, tables);
 }
 
 fn main() {
-    let t = crc32::tables();
     let mut m = [0u8; MEDIA];
     let mut tables = [0u64; TABLES];
-    run(&t, &mut m, &mut tables);
+    run(&mut m, &mut tables);
 }

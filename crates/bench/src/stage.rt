@@ -1,13 +1,10 @@
 // The cluster that the jobs work on: seven replicas of 1,000 places, driven by the eleven calls alone.
-ghost use mathlib.Core.Path.{_≡_};
-ghost use Rattle.crc32.specs.Tables.{tablesOf};
 use cluster::Answer;
 use cluster::Call;
 use cluster::Outcome;
 use cluster::Records;
 use cluster::Request;
 use cluster::Shape;
-use crc32::Tables;
 use fate::Fate;
 
 const REPLICAS: u64 = 7;
@@ -22,9 +19,7 @@ pub const MEDIA: usize = 448448;
 pub const TABLES: usize = 4096;
 
 // A fresh cluster; no call sees what is given where the lengths are not its own.
-pub fn begun(t: &Tables, m: &mut [u8], tables: &mut [u64]) -> Records
-    requires { ⌜ now t ≡ tablesOf ⌝ }
-{
+pub fn begun(m: &mut [u8], tables: &mut [u64]) -> Records {
     if m.len() != MEDIA {
         return fresh::records();
     }
@@ -35,7 +30,8 @@ pub fn begun(t: &Tables, m: &mut [u8], tables: &mut [u64]) -> Records
         replicas: REPLICAS,
         places: PLACES,
     };
-    fresh::start(t, shape, m, tables)
+    let t = crc32::tables();
+    fresh::start(&t, shape, m, tables)
 }
 
 // One call; a request has 28 bytes of data and no lock.
@@ -65,13 +61,27 @@ pub fn value(o: Outcome) -> u64 {
     0
 }
 
-// A server takes the next session and prepares every replica.
-pub fn prepared(r: Records, m: &mut [u8], tables: &mut [u64], server: u64) -> Records {
-    let mut next = after(r, m, tables, Call::Take(server, Fate::Answered));
+// A server's message to a replica: a send or a prepare.
+fn message(server: u64, i: u64, sends: bool) -> Call {
+    if sends {
+        return Call::Send(server, i, Fate::Answered);
+    }
+    Call::Prepare(server, i, Fate::Answered)
+}
+
+// The same message to every replica.
+fn to_all(r: Records, m: &mut [u8], tables: &mut [u64], server: u64, sends: bool) -> Records {
+    let mut next = r;
     for i in 0..7 {
-        next = after(next, m, tables, Call::Prepare(server, i, Fate::Answered));
+        next = after(next, m, tables, message(server, i, sends));
     }
     next
+}
+
+// A server takes the next session and prepares every replica.
+pub fn prepared(r: Records, m: &mut [u8], tables: &mut [u64], server: u64) -> Records {
+    let taken = after(r, m, tables, Call::Take(server, Fate::Answered));
+    to_all(taken, m, tables, server, false)
 }
 
 pub fn issued(r: Records, m: &mut [u8], tables: &mut [u64]) -> Records {
@@ -86,26 +96,26 @@ pub fn issued(r: Records, m: &mut [u8], tables: &mut [u64]) -> Records {
     after(r, m, tables, Call::Issue(0, q))
 }
 
-// Server 0 issues the next record and sends it to every replica.
-fn stored(r: Records, m: &mut [u8], tables: &mut [u64]) -> Records {
-    let mut next = issued(r, m, tables);
-    for i in 0..7 {
-        next = after(next, m, tables, Call::Send(0, i, Fate::Answered));
+// Server 0 issues n records, one after another, and sends each to every replica.
+fn stored(r: Records, m: &mut [u8], tables: &mut [u64], n: u64) -> Records {
+    let mut next = r;
+    let mut left = n;
+    while 0 < left {
+        next = to_all(issued(next, m, tables), m, tables, 0, true);
+        left -= 1;
     }
     next
 }
 
-// Server 0 of a fresh cluster opens the first session and stores n records.
-pub fn filled(t: &Tables, m: &mut [u8], tables: &mut [u64], n: u64) -> Records
-    requires { ⌜ now t ≡ tablesOf ⌝ }
-{
-    let fresh = begun(t, m, tables);
+// Server 0 of a fresh cluster opens the first session.
+fn opened(m: &mut [u8], tables: &mut [u64]) -> Records {
+    let fresh = begun(m, tables);
     let ready = prepared(fresh, m, tables, 0);
-    let mut next = after(ready, m, tables, Call::Open(0, Fate::Answered));
-    let mut left = n;
-    while 0 < left {
-        next = stored(next, m, tables);
-        left -= 1;
-    }
-    next
+    after(ready, m, tables, Call::Open(0, Fate::Answered))
+}
+
+// It stores n records then.
+pub fn filled(m: &mut [u8], tables: &mut [u64], n: u64) -> Records {
+    let open = opened(m, tables);
+    stored(open, m, tables, n)
 }

@@ -1,15 +1,11 @@
-// One turn of each job.
+// What the jobs do in a turn, beside a call.
 ghost use mathlib.Core.Path.{_≡_};
 ghost use lib.ListN.{length};
 ghost use Rattle.crc32.specs.Tables.{tablesOf};
 ghost use Rattle.bench.specs.Sizes.{mediaLength};
-use crate::stage;
 use crate::stage::MEDIA;
 use crate::stage::MEDIUM;
-use cluster::Call;
-use cluster::Records;
 use crc32::Tables;
-use fate::Fate;
 use std::num::wrapping_add_u64;
 use storage::medium;
 
@@ -19,27 +15,14 @@ const CRC_BYTES: usize = 65536;
 // Where the last of 1,000 places begins.
 const LAST_PLACE: usize = 64000;
 
-fn crc_of(t: &Tables, m: &[u8], n: usize) -> u64
+// The CRC of 64 KB.
+fn crc(t: &Tables, m: &[u8]) -> u64
     requires { ⌜ now t ≡ tablesOf ⌝ }
 {
-    if m.len() < n {
+    if m.len() < CRC_BYTES {
         return 0;
     }
-    crc32::crc(t, &m[0..n]) as u64
-}
-
-// The byte that differs from turn to turn.
-fn mark_turn(m: &mut [u8], turn: u64) {
-    if 0 < m.len() {
-        m[0] = (turn % 256) as u8;
-    }
-}
-
-pub fn crc(t: &Tables, m: &mut [u8], turn: u64) -> u64
-    requires { ⌜ now t ≡ tablesOf ⌝ }
-{
-    mark_turn(m, turn);
-    crc_of(t, m, CRC_BYTES)
+    crc32::crc(t, &m[0..CRC_BYTES]) as u64
 }
 
 fn seven_marks(t: &Tables, m: &[u8]) -> u64
@@ -58,14 +41,31 @@ fn seven_marks(t: &Tables, m: &[u8]) -> u64
     sum
 }
 
-pub fn marks(t: &Tables, m: &mut [u8], turn: u64) -> u64
+fn marks(t: &Tables, m: &[u8]) -> u64
     requires { ⌜ now t ≡ tablesOf ⌝ }
 {
-    mark_turn(m, turn);
     if m.len() != MEDIA {
         return 0;
     }
     seven_marks(t, m)
+}
+
+// The byte that differs from turn to turn.
+fn mark_turn(m: &mut [u8], turn: u64) {
+    if 0 < m.len() {
+        m[0] = (turn % 256) as u8;
+    }
+}
+
+// A turn of a job that reads media: the CRC, or the marks of all seven.
+pub fn read(t: &Tables, job: u64, m: &mut [u8], turn: u64) -> u64
+    requires { ⌜ now t ≡ tablesOf ⌝ }
+{
+    mark_turn(m, turn);
+    if job == 0 {
+        return crc(t, m);
+    }
+    marks(t, m)
 }
 
 // The last place of the first medium is wiped.
@@ -75,15 +75,6 @@ fn wipe_last(m: &mut [u8]) {
     if e <= m.len() {
         octets::clear(&mut m[a..e]);
     }
-}
-
-pub fn send(ready: Records, m: &mut [u8], tables: &mut [u64]) -> u64 {
-    wipe_last(m);
-    stage::value(stage::make(ready, m, tables, Call::Send(0, 0, Fate::Answered)))
-}
-
-pub fn open(ready: Records, m: &mut [u8], tables: &mut [u64]) -> u64 {
-    stage::value(stage::make(ready, m, tables, Call::Open(1, Fate::Answered)))
 }
 
 // The first medium, as it is to be put back.
@@ -101,7 +92,11 @@ fn put_back(full: &[u8], m: &mut [u8]) {
     }
 }
 
-pub fn prepare(ready: Records, full: &[u8], m: &mut [u8], tables: &mut [u64]) -> u64 {
-    put_back(full, m);
-    stage::value(stage::make(ready, m, tables, Call::Prepare(1, 0, Fate::Answered)))
+// Undoes what the turn before did: a send's record, or a prepare's cut. An open is done again as it is.
+pub fn undo(job: u64, full: &[u8], m: &mut [u8]) {
+    match job {
+        2 => wipe_last(m),
+        3 => put_back(full, m),
+        _ => {}
+    }
 }

@@ -1,45 +1,30 @@
-// The answer to a line: what is held after it.
-ghost use mathlib.Core.Path.{_≡_};
-ghost use Rattle.crc32.specs.Tables.{tablesOf};
-use crate::beside;
+// The answer to a line.
+use crate::MEDIA;
+use crate::TABLES;
 use crate::calls;
-use crate::held::Held;
-use crate::held::Next;
+use crate::calls::Asked;
+use crate::cells::Cells;
+use crate::forms;
+use crate::forms::CALLS;
 use crate::lent;
 use crate::perform;
-use crate::records;
-use crc32::Tables;
 use stored::print;
-use text::line;
 
-// A line that hands in a part of the state.
-fn hand_in(t: &Tables, line: &[u8], h: Held, m: &mut [u8], tables: &mut [u64]) -> Next
-    requires { ⌜ now t ≡ tablesOf ⌝ }
-{
-    let word = line::first(line);
-    let first = lent::hand_in(t, word, line, h, m, tables);
-    if first.fits {
-        return first;
+// Makes the call that a line asks for, or takes what it hands in; false where it fits no form.
+pub fn fits(line: &[u8], m: &mut [u8; MEDIA], tables: &mut [u64; TABLES], w: &mut Cells) -> bool {
+    let kind = forms::kind(line);
+    if CALLS <= kind {
+        return lent::hand_in(line, kind, m, tables, w);
     }
-    let second = beside::hand_in(word, line, h);
-    if second.fits {
-        return second;
-    }
-    records::hand_in(word, line, h)
+    let Asked::Is(call) = calls::read(line, kind) else {
+        return false;
+    };
+    perform::perform(call, m, tables, w);
+    true
 }
 
-pub fn answer(t: &Tables, line: &[u8], h: Held, m: &mut [u8], tables: &mut [u64]) -> Held
-    requires { ⌜ now t ≡ tablesOf ⌝ }
-{
-    let asked = calls::read(line::first(line), line);
-    if asked.fits {
-        let call = asked.call;
-        return perform::perform(t, h, call, m, tables);
-    }
-    let next = hand_in(t, line, h, m, tables);
-    if !next.fits {
+pub fn told(fits: bool) {
+    if !fits {
         print::text(b"bad\n");
     }
-    let after = next.held;
-    after
 }

@@ -1,5 +1,5 @@
-// Which call a line asks for. FATE stands for three fields, as in the vectors: 0 answered, 1 lost, 2 answer lost or 3 cut; the write
-// w; 0 old, 1 new or 2 torn.
+// The call that a line asks for. FATE stands for three fields, as in the vectors: 0 answered, 1 lost, 2 answer lost or 3 cut; the
+// write w; 0 old, 1 new or 2 torn.
 ghost use Prim.Native.Nat.{_≤_};
 use crate::fields;
 use cluster::Call;
@@ -7,64 +7,25 @@ use cluster::Request;
 use fate::Fate;
 use stored::fates;
 use stored::fates::FateField;
-use text::line;
-use text::number;
-use text::number::Word;
 
 // The call, if the line fits one.
-pub struct Asked {
-    pub fits: bool,
-    pub call: Call,
+pub enum Asked {
+    Is(Call),
+    Unfit,
 }
 
-fn unfit() -> Asked {
-    Asked {
-        fits: false,
-        call: Call::Reassign,
-    }
-}
-
-// Calls with a fate by their words: 0 to 7; 8 for another word.
-fn kind(word: &[u8]) -> u64 {
-    if check::same(word, b"take") {
-        return 0;
-    }
-    if check::same(word, b"prepare") {
-        return 1;
-    }
-    if check::same(word, b"copy") {
-        return 2;
-    }
-    if check::same(word, b"trim") {
-        return 3;
-    }
-    if check::same(word, b"open") {
-        return 4;
-    }
-    if check::same(word, b"send") {
-        return 5;
-    }
-    if check::same(word, b"note") {
-        return 6;
-    }
-    if check::same(word, b"read") {
-        return 7;
-    }
-    8
-}
-
-// How many numbers stand before the fate: a server; a server and a replica; or with them another replica or an ID.
-fn numbers(kind: u64) -> usize
-    ensures { λ r. ⌜ r ≤ 3 ⌝ }
+// The first field of FATE: before it stand a server; a server and a replica; or with them another replica or an ID.
+fn fate_at(kind: u64) -> usize
+    ensures { λ r. ⌜ r ≤ 4 ⌝ }
 {
     match kind {
-        0 | 4 => 1,
-        2 | 7 => 3,
-        _ => 2,
+        0 | 4 => 2,
+        2 | 7 => 4,
+        _ => 3,
     }
 }
 
-fn with_fate(kind: u64, a: u64, b: u64, c: u64, f: Fate) -> Call {
+fn fated(kind: u64, a: u64, b: u64, c: u64, f: Fate) -> Call {
     match kind {
         0 => Call::Take(a, f),
         1 => Call::Prepare(a, b, f),
@@ -77,92 +38,60 @@ fn with_fate(kind: u64, a: u64, b: u64, c: u64, f: Fate) -> Call {
     }
 }
 
-// A line of a call with a fate: its numbers, FATE, and nothing else.
-fn read_fated(line: &[u8], kind: u64) -> Asked {
-    let n = numbers(kind);
-    if !fields::fit(line, n + 4, n + 3) {
-        return unfit();
-    }
-    let FateField::Is(f) = fates::read(line, n + 1) else {
-        return unfit();
+fn with_fate(line: &[u8], kind: u64) -> Asked {
+    let FateField::Is(f) = fates::read(line, fate_at(kind)) else {
+        return Asked::Unfit;
     };
-    let a = fields::at(line, 1);
-    let b = fields::at(line, 2);
-    let c = fields::at(line, 3);
-    Asked {
-        fits: true,
-        call: with_fate(kind, a, b, c, f),
-    }
+    let call = fated(
+        kind,
+        fields::at(line, 1),
+        fields::at(line, 2),
+        fields::at(line, 3),
+        f,
+    );
+    Asked::Is(call)
 }
 
-// A request, if its numbers have their widths.
-enum Wanted {
-    Is(Request),
-    Unfit,
+fn word(line: &[u8], k: usize) -> u32 {
+    (fields::at(line, k) % 4294967296) as u32
 }
 
-// Client's mark, client, generation, partition, sequence, header, from field 2.
-fn request(line: &[u8]) -> Wanted {
-    let Word::Is(client) = number::decimal32(line::field(line, 3)) else {
-        return Wanted::Unfit;
-    };
-    let Word::Is(generation) = number::decimal32(line::field(line, 4)) else {
-        return Wanted::Unfit;
-    };
-    let Word::Is(partition) = number::decimal32(line::field(line, 5)) else {
-        return Wanted::Unfit;
-    };
-    let Word::Is(sequence) = number::decimal32(line::field(line, 6)) else {
-        return Wanted::Unfit;
-    };
-    let Word::Is(header) = number::decimal32(line::field(line, 7)) else {
-        return Wanted::Unfit;
-    };
-    Wanted::Is(Request {
+// A request is from field 2 on: client's mark, client, generation, partition, sequence, header; its data and locks lie beside it.
+fn request(line: &[u8]) -> Request {
+    Request {
         mark: fields::at(line, 2),
-        client: client,
-        generation: generation,
-        partition: partition,
-        sequence: sequence,
-        header: header,
-    })
+        client: word(line, 3),
+        generation: word(line, 4),
+        partition: word(line, 5),
+        sequence: word(line, 6),
+        header: word(line, 7),
+    }
 }
 
-// issue, server, REQUEST; its data and locks lie beside it.
+// Whether the numbers of a request have their widths.
+fn are_words(line: &[u8]) -> bool {
+    let mut k = 3;
+    while k < 8 {
+        if 4294967295 < fields::at(line, k) {
+            return false;
+        }
+        k += 1;
+    }
+    true
+}
+
 fn issue(line: &[u8]) -> Asked {
-    if !fields::fit(line, 8, 7) {
-        return unfit();
+    if !are_words(line) {
+        return Asked::Unfit;
     }
-    let Wanted::Is(q) = request(line) else {
-        return unfit();
-    };
-    Asked {
-        fits: true,
-        call: Call::Issue(fields::at(line, 1), q),
-    }
+    Asked::Is(Call::Issue(fields::at(line, 1), request(line)))
 }
 
-// stop, server; reassign.
-fn read_plain(word: &[u8], line: &[u8]) -> Asked {
-    if fields::is(word, b"stop", line, 2, 1) {
-        return Asked {
-            fits: true,
-            call: Call::Stop(fields::at(line, 1)),
-        };
+pub fn read(line: &[u8], kind: u64) -> Asked {
+    match kind {
+        8 => issue(line),
+        9 => Asked::Is(Call::Stop(fields::at(line, 1))),
+        10 => Asked::Is(Call::Reassign),
+        _ => with_fate(line, kind),
     }
-    Asked {
-        fits: fields::is(word, b"reassign", line, 1, 0),
-        call: Call::Reassign,
-    }
-}
-
-pub fn read(word: &[u8], line: &[u8]) -> Asked {
-    let k = kind(word);
-    if k < 8 {
-        return read_fated(line, k);
-    }
-    if check::same(word, b"issue") {
-        return issue(line);
-    }
-    read_plain(word, line)
 }

@@ -1,13 +1,16 @@
 // The numbers among a line's fields.
+ghost use Prim.Native.Nat.{_≤_};
+use crate::cells;
+use crate::cells::Cells;
 use text::line;
 use text::number;
 use text::number::Number;
 
-// Whether the n fields behind the first are numbers.
-fn are_numbers(line: &[u8], n: usize) -> bool {
+// Whether the fields behind the first are numbers, of n all but as many as others.
+fn are_numbers(line: &[u8], n: usize, others: usize) -> bool {
     let mut rest = line;
     let mut left = n;
-    while 0 < left {
+    while others < left {
         let next = line::behind(rest);
         rest = next;
         let Number::Is(_) = number::decimal(line::first(rest)) else {
@@ -18,12 +21,12 @@ fn are_numbers(line: &[u8], n: usize) -> bool {
     true
 }
 
-// Whether a line has so many fields, and behind its first field so many numbers.
-pub fn fit(line: &[u8], fields: usize, numbers: usize) -> bool {
-    if line::count(line) != fields {
+// Whether a line has n fields, and behind its first numbers, where so many in all are none.
+pub fn fit(line: &[u8], n: usize, others: usize) -> bool {
+    if line::count(line) != n {
         return false;
     }
-    are_numbers(line, numbers)
+    are_numbers(line, n, others)
 }
 
 // The number that field k is; 0 where it is none.
@@ -34,10 +37,15 @@ pub fn at(line: &[u8], k: usize) -> u64 {
     v
 }
 
-// Whether a line's word is this one, and the line fits that word's form.
-pub fn is(word: &[u8], w: &[u8], line: &[u8], fields: usize, numbers: usize) -> bool {
-    if !check::same(word, w) {
-        return false;
+// The n numbers from field k on become those held from number i on.
+pub fn store(line: &[u8], k: usize, n: usize, w: &mut Cells, i: usize)
+    requires { ⌜ k ≤ 8 ⌝ }
+    requires { ⌜ n ≤ 8 ⌝ }
+    requires { ⌜ i ≤ 500 ⌝ }
+{
+    let mut j = 0;
+    while j < n {
+        cells::put(w, i + j, at(line, k + j));
+        j += 1;
     }
-    fit(line, fields, numbers)
 }

@@ -1,14 +1,16 @@
 // Lines about the two slices that the calls are lent: media and lock tables.
 ghost use mathlib.Core.Path.{_≡_};
 ghost use Prim.Native.Nat.{_*_, _≤_};
-ghost use Rattle.crc32.specs.Tables.{tablesOf};
+ghost use lib.ListN.{length};
 ghost use Rattle.storage.specs.Sizes.{mediumSize};
+use crate::cells;
+use crate::cells::Cells;
+use crate::cells::LENT;
+use crate::cells::SHAPE;
 use crate::fields;
-use crate::held;
-use crate::held::Held;
-use crate::held::Next;
+use crate::records;
+use crate::state;
 use cluster::Shape;
-use crc32::Tables;
 use storage::sizes::PLACE;
 use storage::sizes::SLOTS;
 use stored::hex;
@@ -32,50 +34,50 @@ fn size(h: Shape) -> usize
     (h.replicas as usize) * (SLOTS + PLACE * places)
 }
 
-// fresh, R, N: a fresh cluster of any R up to 7, with slices of its lengths lent from now on.
-fn fresh_line(t: &Tables, line: &[u8], h: Held, m: &mut [u8], tables: &mut [u64]) -> Next
-    requires { ⌜ now t ≡ tablesOf ⌝ }
+// A fresh cluster in slices of its lengths, which are lent from now on.
+fn begin(shape: Shape, m: &mut [u8], tables: &mut [u64], w: &mut Cells)
+    requires { ⌜ shape .places ≤ 14 ⌝ }
+    requires { ⌜ length (now m) ≡ shape .replicas * mediumSize (shape .places) ⌝ }
+    requires { ⌜ length (now tables) ≡ 4096 ⌝ }
 {
+    let t = crc32::tables();
+    records::put_all(w, fresh::start(&t, shape, m, tables));
+    let n = [
+        shape.replicas,
+        shape.places,
+        m.len() as u64,
+        tables.len() as u64,
+    ];
+    cells::put_run(w, SHAPE, &n);
+}
+
+// fresh, R, N: a fresh cluster of any R up to 7.
+fn fresh_line(line: &[u8], m: &mut [u8], tables: &mut [u64], w: &mut Cells) -> bool {
     let shape = Shape {
         replicas: fields::at(line, 1),
         places: fields::at(line, 2),
     };
-    if REPLICAS < shape.replicas {
-        return held::unfit(h);
-    }
-    if PLACES < shape.places {
-        return held::unfit(h);
+    if REPLICAS < shape.replicas || PLACES < shape.places {
+        return false;
     }
     let n = size(shape);
-    if m.len() < n {
-        return held::unfit(h);
+    if m.len() < n || tables.len() < TABLES {
+        return false;
     }
-    if tables.len() < TABLES {
-        return held::unfit(h);
-    }
-    let records = fresh::start(t, shape, &mut m[0..n], &mut tables[0..TABLES]);
-    let mut next = h;
-    next.shape = shape;
-    next.records = records;
-    next.media = n;
-    next.tables = TABLES;
-    held::fits(next)
+    begin(shape, &mut m[0..n], &mut tables[0..TABLES], w);
+    true
 }
 
 // lend, bytes of the media, marks of the lock tables: the lengths of the slices lent from now on.
-fn lend(line: &[u8], h: Held, media: usize, tables: usize) -> Next {
-    let a = fields::at(line, 1);
-    let b = fields::at(line, 2);
-    if (media as u64) < a {
-        return held::unfit(h);
+fn lend(line: &[u8], w: &mut Cells) -> bool {
+    if (crate::MEDIA as u64) < fields::at(line, 1) {
+        return false;
     }
-    if (tables as u64) < b {
-        return held::unfit(h);
+    if (crate::TABLES as u64) < fields::at(line, 2) {
+        return false;
     }
-    let mut next = h;
-    next.media = a as usize;
-    next.tables = b as usize;
-    held::fits(next)
+    fields::store(line, 1, 2, w, LENT);
+    true
 }
 
 // media, offset, BYTES.
@@ -119,32 +121,17 @@ fn table(line: &[u8], tables: &mut [u64]) -> bool {
 }
 
 pub fn hand_in(
-    t: &Tables,
-    word: &[u8],
     line: &[u8],
-    h: Held,
-    m: &mut [u8],
-    tables: &mut [u64],
-) -> Next
-    requires { ⌜ now t ≡ tablesOf ⌝ }
-{
-    if fields::is(word, b"fresh", line, 3, 2) {
-        return fresh_line(t, line, h, m, tables);
+    kind: u64,
+    m: &mut [u8; crate::MEDIA],
+    tables: &mut [u64; crate::TABLES],
+    w: &mut Cells,
+) -> bool {
+    match kind {
+        17 => lend(line, w),
+        22 => media(line, m),
+        23 => table(line, tables),
+        24 => fresh_line(line, m, tables, w),
+        _ => state::hand_in(line, kind, w),
     }
-    if fields::is(word, b"lend", line, 3, 2) {
-        return lend(line, h, m.len(), tables.len());
-    }
-    if fields::is(word, b"media", line, 3, 1) {
-        return Next {
-            fits: media(line, m),
-            held: h,
-        };
-    }
-    if fields::is(word, b"table", line, 4, 3) {
-        return Next {
-            fits: table(line, tables),
-            held: h,
-        };
-    }
-    held::unfit(h)
 }

@@ -2,117 +2,110 @@
 // prints nothing, or makes a call, whose reply and check sums of all state are a line of standard output; `bad` is printed where a
 // line fits no form. The lines, their forms and the output that stdout must equal come from the other implementation
 // (twin/src/replay.rs; its replay writes both files).
-ghost use mathlib.Core.Path.{_≡_};
-ghost use Rattle.crc32.specs.Tables.{tablesOf};
-use crate::held::Held;
-use crc32::Tables;
+ghost use Prim.Native.Nat.{_+_, _≤_};
+ghost use lib.ListN.{length};
+use crate::cells::ALL;
+use crate::cells::Cells;
 use libc::STDIN_FILENO;
-use stored::print;
 
 mod answer;
-mod beside;
 mod calls;
+mod cells;
 mod fields;
-mod held;
+mod forms;
 mod lent;
 mod perform;
 mod records;
+mod state;
 mod sums;
 
 // The longest line that is answered.
 const LIMIT: usize = 2000;
 
 // Bytes for media and marks for lock tables, some more than any cluster here has: a call can be lent too much.
-const MEDIA: usize = 7168;
+pub const MEDIA: usize = 7168;
 
-const TABLES: usize = 4100;
+pub const TABLES: usize = 4100;
 
-// The program between two bytes of input: how many of a line have come, at most one above what can be held, and the cluster.
-struct State {
-    n: usize,
-    held: Held,
+// What stands for the end of the input where a byte is read.
+const END: usize = 256;
+
+const NEWLINE: usize = 10;
+
+fn wide(b: u8) -> usize {
+    b as usize
 }
 
-// Answers a line of n bytes; of a line that is too long only the first are held.
-fn finish(t: &Tables, line: &[u8], s: State, m: &mut [u8], tables: &mut [u64]) -> State
-    requires { ⌜ now t ≡ tablesOf ⌝ }
-{
-    let n = s.n;
-    let before = s.held;
-    if line.len() < n {
-        print::text(b"bad\n");
-        return State { n: 0, held: before };
+// The next byte of the input.
+fn next() -> usize {
+    let mut b = [0u8; 1];
+    if io::read_full(STDIN_FILENO, &mut b) == 0 {
+        return END;
     }
-    let after = answer::answer(t, &line[0..n], before, m, tables);
-    State { n: 0, held: after }
+    wide(b[0])
 }
 
-// One more byte of the input.
-fn put(t: &Tables, line: &mut [u8], s: State, b: u8, m: &mut [u8], tables: &mut [u64]) -> State
-    requires { ⌜ now t ≡ tablesOf ⌝ }
-{
-    if b == b'\n' {
-        return finish(t, line, s, m, tables);
-    }
-    let n = s.n;
-    let mut next = s;
+// One more byte of a line of n: how many there are now, at most one above what can be held.
+fn put(line: &mut [u8], n: usize, b: usize) -> usize {
     if line.len() <= n {
-        next.n = line.len() + 1;
-        return next;
+        return line.len() + 1;
     }
-    line[n] = b;
-    next.n = n + 1;
-    next
+    line[n] = (b % 256) as u8;
+    n + 1
 }
 
-// The bytes of one read.
-fn feed(
-    t: &Tables,
-    line: &mut [u8],
-    s: State,
-    chunk: &[u8],
-    m: &mut [u8],
-    tables: &mut [u64],
-) -> State
-    requires { ⌜ now t ≡ tablesOf ⌝ }
+// One more than the length of a line; a line that is too long is answered as an empty one, which is bad as well.
+fn ended(line: &[u8], n: usize) -> usize
+    ensures { λ r. ⌜ r ≤ length (now (line .entry)) + 1 ⌝ }
 {
-    let mut state = s;
-    let mut i = 0;
-    while i < chunk.len() {
-        state = put(t, line, state, chunk[i], m, tables);
-        i += 1;
+    if line.len() < n {
+        return 1;
     }
-    state
+    n + 1
 }
 
-// Reads to the end of the input. A proved loop has to end, and nothing says that the input does: so it counts its turns down,
-// from a number that no run uses up.
-fn run(t: &Tables, line: &mut [u8], m: &mut [u8], tables: &mut [u64])
-    requires { ⌜ now t ≡ tablesOf ⌝ }
+// Reads a line and answers one more than its length; 0 at the end of the input. A proved loop has to end, and nothing says that the
+// input does: so it counts its turns down, from a number that no run uses up.
+fn read(line: &mut [u8]) -> usize
+    ensures { λ r. ⌜ r ≤ length (now (line .entry)) + 1 ⌝ }
 {
-    let mut chunk = io::large_buffer();
-    let mut state = State {
-        n: 0,
-        held: held::nothing(),
-    };
+    let mut n = 0;
     let mut turns = u64::MAX;
     while 0 < turns {
-        let got = io::read_full(STDIN_FILENO, &mut chunk);
-        if got == 0 {
+        let b = next();
+        if b == NEWLINE {
+            return ended(line, n);
+        }
+        if b == END {
             break;
         }
-        state = feed(t, line, state, &chunk[0..got], m, tables);
+        n = put(line, n, b);
         turns -= 1;
     }
-    if 0 < state.n {
-        finish(t, line, state, m, tables);
+    if n == 0 {
+        return 0;
+    }
+    ended(line, n)
+}
+
+// Answers every line.
+fn run(m: &mut [u8; MEDIA], tables: &mut [u64; TABLES], w: &mut Cells) {
+    let mut line = [0u8; LIMIT];
+    let mut turns = u64::MAX;
+    while 0 < turns {
+        let n = read(&mut line);
+        if n == 0 {
+            return;
+        }
+        let e = n - 1;
+        answer::told(answer::fits(&line[0..e], m, tables, w));
+        turns -= 1;
     }
 }
 
 fn main() {
-    let t = crc32::tables();
-    let mut line = io::buffer();
     let mut m = [0u8; MEDIA];
     let mut tables = [0u64; TABLES];
-    run(&t, &mut line[0..LIMIT], &mut m, &mut tables);
+    let mut w = [0u64; ALL];
+    run(&mut m, &mut tables, &mut w);
 }

@@ -1,21 +1,27 @@
 // A call made on what is held, its reply and the check sums after it.
-ghost use mathlib.Core.Path.{_≡_};
 ghost use Prim.Native.Nat.{_≤_};
-ghost use Rattle.crc32.specs.Tables.{tablesOf};
-use crate::held::Held;
+use crate::cells;
+use crate::cells::COUNT;
+use crate::cells::Cells;
+use crate::cells::DATA;
+use crate::cells::GIVEN;
+use crate::cells::LENT;
+use crate::cells::LOCKS;
+use crate::cells::SHAPE;
+use crate::cells::SIZE;
+use crate::records;
 use crate::sums;
 use cluster::Answer;
 use cluster::Call;
 use cluster::Outcome;
-use cluster::Records;
 use cluster::Refusal;
-use crc32::Tables;
+use cluster::Shape;
 use stored::print;
 
 // The lock and its estimate stand behind number 15.
 fn print_refusal(why: Refusal) {
-    print::text(b"no\t");
-    print::number(lines::replies::number_of(why));
+    print::text(b"no");
+    print::next(lines::replies::number_of(why));
     if let Refusal::Locked(lock, estimate) = why {
         print::next(lock);
         print::next(estimate);
@@ -49,76 +55,75 @@ fn print_sum(sum: u32) {
     print::digits(&out);
 }
 
-fn print_sums(t: &Tables, r: Records, m: &[u8], tables: &[u64])
-    requires { ⌜ now t ≡ tablesOf ⌝ }
-{
-    print_sum(sums::of_records(t, r));
-    print_sum(crc32::crc(t, m));
-    print_sum(sums::of_tables(t, tables));
-    print::text(b"\n");
-}
-
-fn least(a: usize, b: usize) -> usize
+fn least(a: u64, b: usize) -> usize
     ensures { λ r. ⌜ r ≤ b ⌝ }
 {
-    if a < b { a } else { b }
+    if a < (b as u64) { a as usize } else { b }
 }
 
-fn bytes_of(data: &[u8], n: usize) -> &[u8] {
-    let k = least(n, data.len());
-    &data[0..k]
+// As many of the locks as there are.
+fn locks(w: &Cells) -> &[u64] {
+    let e = LOCKS + least(cells::at(w, COUNT), 8);
+    let all = &w[..];
+    &all[LOCKS..e]
 }
 
-fn numbers_of(locks: &[u64], n: usize) -> &[u64] {
-    let k = least(n, locks.len());
-    &locks[0..k]
+fn shape(w: &Cells) -> Shape {
+    Shape {
+        replicas: cells::at(w, SHAPE),
+        places: cells::at(w, SHAPE + 1),
+    }
+}
+
+// As many of the bytes as there are.
+fn some(b: &[u8], n: u64) -> &[u8] {
+    let k = least(n, b.len());
+    &b[0..k]
 }
 
 // The call with what lies beside it, as much of each as there is.
-fn apply_beside(
-    h: Held,
-    call: Call,
-    m: &mut [u8],
-    tables: &mut [u64],
-    data: &[u8; 64],
-    locks: &[u64; 8],
-    given: &[u8; 64],
-) -> Outcome {
-    let shape = h.shape;
-    let records = h.records;
+fn apply(call: Call, m: &mut [u8], tables: &mut [u64], w: &Cells) -> Outcome {
+    let data = cells::bytes(w, DATA);
+    let given = cells::bytes(w, GIVEN);
+    let n = cells::at(w, SIZE);
     journal::apply::apply(
-        shape,
-        records,
+        shape(w),
+        records::of(w),
         m,
         tables,
         call,
-        bytes_of(data, h.size),
-        numbers_of(locks, h.count),
-        given,
+        some(&data, n),
+        locks(w),
+        &given,
     )
 }
 
-fn apply(h: Held, call: Call, m: &mut [u8], tables: &mut [u64]) -> Outcome {
-    let data = h.data;
-    let locks = h.locks;
-    let given = h.given;
-    apply_beside(h, call, m, tables, &data, &locks, &given)
+// The records that a call leaves are held, and the answer is printed.
+fn keep(o: Outcome, w: &mut Cells) {
+    let records = o.records;
+    let answer = o.answer;
+    let bytes = o.bytes;
+    records::put_all(w, records);
+    print_answer(answer);
+    print_bytes(&bytes);
+}
+
+fn print_sums(m: &[u8], tables: &[u64], w: &Cells) {
+    print_sum(sums::of_records(w));
+    print_sum(sums::of_bytes(m));
+    print_sum(sums::of(tables));
+    print::text(b"\n");
+}
+
+fn make(call: Call, m: &mut [u8], tables: &mut [u64], w: &mut Cells) {
+    let o = apply(call, m, tables, w);
+    keep(o, w);
+    print_sums(m, tables, w);
 }
 
 // The slices are lent at the lengths that are held.
-pub fn perform(t: &Tables, h: Held, call: Call, m: &mut [u8], tables: &mut [u64]) -> Held
-    requires { ⌜ now t ≡ tablesOf ⌝ }
-{
-    let a = least(h.media, m.len());
-    let b = least(h.tables, tables.len());
-    let o = apply(h, call, &mut m[0..a], &mut tables[0..b]);
-    let answer = o.answer;
-    let bytes = o.bytes;
-    let records = o.records;
-    print_answer(answer);
-    print_bytes(&bytes);
-    print_sums(t, records, &m[0..a], &tables[0..b]);
-    let mut next = h;
-    next.records = records;
-    next
+pub fn perform(call: Call, m: &mut [u8], tables: &mut [u64], w: &mut Cells) {
+    let a = least(cells::at(w, LENT), m.len());
+    let b = least(cells::at(w, LENT + 1), tables.len());
+    make(call, &mut m[0..a], &mut tables[0..b], w);
 }

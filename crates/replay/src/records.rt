@@ -1,62 +1,26 @@
-// Lines about the shape, the register and the servers' records.
+// The records, out of the numbers that are held and back into them.
 ghost use Prim.Native.Nat.{_≤_};
-use crate::fields;
-use crate::held;
-use crate::held::Held;
-use crate::held::Next;
+use crate::cells;
+use crate::cells::Cells;
+use crate::cells::ENTRIES;
+use crate::cells::HANDED;
+use crate::cells::ISSUED;
+use crate::cells::REPLICAS;
+use crate::cells::SERVER;
+use crate::cells::SERVERS;
 use cluster::Closing;
 use cluster::Entry;
 use cluster::Phase;
 use cluster::Records;
 use cluster::Register;
 use cluster::Server;
-use cluster::Shape;
-use stored::hex;
-use text::line;
-use text::number;
-use text::number::Word;
 
-// shape, R, N: any two numbers.
-fn shape(line: &[u8], h: Held) -> Next {
-    let s = Shape {
-        replicas: fields::at(line, 1),
-        places: fields::at(line, 2),
-    };
-    let mut next = h;
-    next.shape = s;
-    held::fits(next)
-}
-
-fn with_records(h: Held, r: Records) -> Next {
-    let mut next = h;
-    next.records = r;
-    held::fits(next)
-}
-
-fn with_register(h: Held, r: Register) -> Next {
-    let mut records = h.records;
-    records.register = r;
-    with_records(h, records)
-}
-
-// register, session, generation.
-fn register(line: &[u8], h: Held) -> Next {
-    let Word::Is(generation) = number::decimal32(line::field(line, 2)) else {
-        return held::unfit(h);
-    };
-    let records = h.records;
-    let mut r = records.register;
-    r.session = fields::at(line, 1);
-    r.generation = generation;
-    with_register(h, r)
-}
-
-// Session, 0 for unresolved or another number, closing mark: the entry that field k and the two behind it say.
-fn entry_at(line: &[u8], k: usize) -> Entry
-    requires { ⌜ k ≤ 8 ⌝ }
+// Session, 0 for unresolved or another number, closing mark: from number k on.
+fn entry(w: &[u64], k: usize) -> Entry
+    requires { ⌜ k ≤ 1000 ⌝ }
 {
-    let session = fields::at(line, k);
-    if fields::at(line, k + 1) == 0 {
+    let session = cells::at(w, k);
+    if cells::at(w, k + 1) == 0 {
         return Entry {
             session: session,
             closing: Closing::Unresolved,
@@ -64,20 +28,45 @@ fn entry_at(line: &[u8], k: usize) -> Entry
     }
     Entry {
         session: session,
-        closing: Closing::Mark(fields::at(line, k + 2)),
+        closing: Closing::Mark(cells::at(w, k + 2)),
     }
 }
 
-// entry, replica, ENTRY: of the register.
-fn entry(line: &[u8], h: Held) -> Next {
-    let i = fields::at(line, 1);
-    if 6 < i {
-        return held::unfit(h);
+fn entries(w: &[u64], k: usize) -> [Entry; 7]
+    requires { ⌜ k ≤ 500 ⌝ }
+{
+    let mut out = [entry(w, k); 7];
+    let mut i = 1;
+    while i < 7 {
+        out[i] = entry(w, k + 3 * i);
+        i += 1;
     }
-    let records = h.records;
-    let mut r = records.register;
-    r.entries[i as usize] = entry_at(line, 2);
-    with_register(h, r)
+    out
+}
+
+// Of each replica, whether its standing is above a limit: above 0 it is known, above 1 dropped.
+fn above(w: &[u64], k: usize, limit: u64) -> [bool; 7]
+    requires { ⌜ k ≤ 500 ⌝ }
+{
+    let mut out = [false; 7];
+    let mut i = 0;
+    while i < 7 {
+        out[i] = limit < cells::at(w, k + 2 * i);
+        i += 1;
+    }
+    out
+}
+
+fn marks(w: &[u64], k: usize) -> [u64; 7]
+    requires { ⌜ k ≤ 500 ⌝ }
+{
+    let mut out = [0u64; 7];
+    let mut i = 0;
+    while i < 7 {
+        out[i] = cells::at(w, k + 2 * i + 1);
+        i += 1;
+    }
+    out
 }
 
 // 0 idle, 1 opening, else open.
@@ -89,123 +78,139 @@ fn phase(n: u64) -> Phase {
     }
 }
 
-// A server's number, which field 1 of each line about its record has; 4 for none.
-fn server_at(line: &[u8]) -> usize
-    ensures { λ r. ⌜ r ≤ 4 ⌝ }
+fn word(v: u64) -> u32 {
+    (v % 4294967296) as u32
+}
+
+// A server's, from its first number on.
+fn server(w: &[u64]) -> Server {
+    Server {
+        phase: phase(cells::at(w, 0)),
+        session: cells::at(w, 1),
+        generation: word(cells::at(w, 2)),
+        entries: entries(w, HANDED),
+        known: above(w, REPLICAS, 0),
+        dropped: above(w, REPLICAS, 1),
+        marks: marks(w, REPLICAS),
+        start: cells::at(w, 3),
+        issued: cells::at(w, 4),
+        acked: cells::at(w, 5),
+        held: cells::bytes(w, ISSUED),
+    }
+}
+
+fn server_at(w: &[u64], i: usize) -> Server
+    requires { ⌜ i ≤ 3 ⌝ }
 {
-    let s = fields::at(line, 1);
-    if 4 < s {
-        return 4;
-    }
-    s as usize
+    server(cells::from(w, SERVERS + SERVER * i))
 }
 
-fn with_server(h: Held, s: usize, v: Server) -> Next {
-    if 3 < s {
-        return held::unfit(h);
-    }
-    let records = h.records;
-    with_records(h, cluster::put_server(records, s, v))
-}
-
-// The record of a server; an idle one's where there is no such server.
-fn record_of(h: Held, s: usize) -> Server {
-    if 3 < s {
-        return cluster::idle();
-    }
-    let records = h.records;
-    records.servers[s]
-}
-
-// server, number, phase, session, generation, starting, issued and acknowledged mark.
-fn server(line: &[u8], h: Held) -> Next {
-    let Word::Is(generation) = number::decimal32(line::field(line, 4)) else {
-        return held::unfit(h);
+pub fn of(w: &[u64]) -> Records {
+    let register = Register {
+        session: cells::at(w, 0),
+        generation: word(cells::at(w, 1)),
+        entries: entries(w, ENTRIES),
     };
-    let s = server_at(line);
-    let v = record_of(h, s);
+    Records {
+        register: register,
+        servers: [
+            server_at(w, 0),
+            server_at(w, 1),
+            server_at(w, 2),
+            server_at(w, 3),
+        ],
+    }
+}
+
+// Session, 0 for unresolved or 1, closing mark.
+fn entry_numbers(e: Entry) -> [u64; 3] {
+    let session = e.session;
+    let c = e.closing;
+    match c {
+        Closing::Unresolved => [session, 0, 0],
+        Closing::Mark(v) => [session, 1, v],
+    }
+}
+
+fn put_entries(w: &mut Cells, k: usize, entries: [Entry; 7])
+    requires { ⌜ k ≤ 300 ⌝ }
+{
+    let mut i = 0;
+    while i < 7 {
+        let n = entry_numbers(entries[i]);
+        cells::put_run(w, k + 3 * i, &n);
+        i += 1;
+    }
+}
+
+// A replica's standing: 0 out, 1 in, 2 dropped; 3 for one that is dropped and not known, which no call makes.
+fn standing(known: bool, dropped: bool) -> u64 {
+    if known {
+        if dropped { 2 } else { 1 }
+    } else {
+        if dropped { 3 } else { 0 }
+    }
+}
+
+fn put_replicas(w: &mut Cells, k: usize, v: Server)
+    requires { ⌜ k ≤ 300 ⌝ }
+{
+    let mut i = 0;
+    while i < 7 {
+        let n = [standing(v.known[i], v.dropped[i]), v.marks[i]];
+        cells::put_run(w, k + 2 * i, &n);
+        i += 1;
+    }
+}
+
+fn phase_number(p: Phase) -> u64 {
+    match p {
+        Phase::Idle => 0,
+        Phase::Opening => 1,
+        Phase::Open => 2,
+    }
+}
+
+fn put_numbers(w: &mut Cells, k: usize, v: Server)
+    requires { ⌜ k ≤ 300 ⌝ }
+{
+    let p = v.phase;
+    let n = [
+        phase_number(p),
+        v.session,
+        v.generation as u64,
+        v.start,
+        v.issued,
+        v.acked,
+    ];
+    cells::put_run(w, k, &n);
+}
+
+fn put_server(w: &mut Cells, k: usize, v: Server)
+    requires { ⌜ k ≤ 200 ⌝ }
+{
     let entries = v.entries;
-    let known = v.known;
-    let dropped = v.dropped;
-    let marks = v.marks;
-    let bytes = v.held;
-    let next = Server {
-        phase: phase(fields::at(line, 2)),
-        session: fields::at(line, 3),
-        generation: generation,
-        entries: entries,
-        known: known,
-        dropped: dropped,
-        marks: marks,
-        start: fields::at(line, 5),
-        issued: fields::at(line, 6),
-        acked: fields::at(line, 7),
-        held: bytes,
-    };
-    with_server(h, s, next)
+    let issued = v.held;
+    put_numbers(w, k, v);
+    put_entries(w, k + HANDED, entries);
+    put_replicas(w, k + REPLICAS, v);
+    cells::put_bytes(w, k + ISSUED, &issued);
 }
 
-// handed, server, replica, ENTRY: an entry that take handed over.
-fn handed(line: &[u8], h: Held) -> Next {
-    let i = fields::at(line, 2);
-    if 6 < i {
-        return held::unfit(h);
+fn put_servers(w: &mut Cells, servers: [Server; 4]) {
+    let mut i = 0;
+    while i < 4 {
+        put_server(w, SERVERS + SERVER * i, servers[i]);
+        i += 1;
     }
-    let s = server_at(line);
-    let mut v = record_of(h, s);
-    v.entries[i as usize] = entry_at(line, 3);
-    with_server(h, s, v)
 }
 
-// replica, server, replica, 0 out, 1 in or 2 dropped, recorded mark.
-fn replica(line: &[u8], h: Held) -> Next {
-    let i = fields::at(line, 2);
-    if 6 < i {
-        return held::unfit(h);
-    }
-    let k = i as usize;
-    let standing = fields::at(line, 3);
-    let s = server_at(line);
-    let mut v = record_of(h, s);
-    v.known[k] = 0 < standing;
-    v.dropped[k] = 1 < standing;
-    v.marks[k] = fields::at(line, 4);
-    with_server(h, s, v)
-}
-
-// held, server, 64 BYTES: its issued record.
-fn issued(line: &[u8], h: Held) -> Next {
-    let mut b = [0u8; 64];
-    if !hex::read(line::field(line, 2), &mut b) {
-        return held::unfit(h);
-    }
-    let s = server_at(line);
-    let mut v = record_of(h, s);
-    v.held = b;
-    with_server(h, s, v)
-}
-
-pub fn hand_in(word: &[u8], line: &[u8], h: Held) -> Next {
-    if fields::is(word, b"shape", line, 3, 2) {
-        return shape(line, h);
-    }
-    if fields::is(word, b"register", line, 3, 2) {
-        return register(line, h);
-    }
-    if fields::is(word, b"entry", line, 5, 4) {
-        return entry(line, h);
-    }
-    if fields::is(word, b"server", line, 8, 7) {
-        return server(line, h);
-    }
-    if fields::is(word, b"handed", line, 6, 5) {
-        return handed(line, h);
-    }
-    if fields::is(word, b"replica", line, 5, 4) {
-        return replica(line, h);
-    }
-    if fields::is(word, b"held", line, 3, 1) {
-        return issued(line, h);
-    }
-    held::unfit(h)
+pub fn put_all(w: &mut Cells, r: Records) {
+    let register = r.register;
+    let entries = register.entries;
+    let servers = r.servers;
+    let n = [register.session, register.generation as u64];
+    cells::put_run(w, 0, &n);
+    put_entries(w, ENTRIES, entries);
+    put_servers(w, servers);
 }

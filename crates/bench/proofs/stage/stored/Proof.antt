@@ -1,29 +1,28 @@
 -- `stage::stored`. The invariant: media and lock tables keep their lengths. The measure is the number of replicas left to send to.
 -- Assumes nothing.
 use mathlib.Core.Path.{_≡_}
-use Prim.Native.Nat.{_-_}
 use lib.ListN.{length}
 use borrow.Author.Needs.{needs}
 use Rattle.bench.proofs.stage.stored.Statement.{statement}
 use Rattle.bench.proofs.stage.stored.Tie as tie
 
 abbrev Inv-loop : tie.InvT-loop
-Inv-loop m₀ tables₀ next₀ i₀ m tables next i = (length m ≡ length m₀) × (length tables ≡ length tables₀)
+Inv-loop m₀ tables₀ n next₀ left₀ m tables next left = (length m ≡ length m₀) × (length tables ≡ length tables₀)
 
 abbrev μ-loop : tie.MeasureT-loop
-μ-loop m₀ tables₀ next₀ i₀ m tables next i = 7 - i
-
-issued-requires : tie.Need-issued-requires Inv-loop μ-loop
-issued-requires c κs = search needs
+μ-loop m₀ tables₀ n next₀ left₀ m tables next left = left
 
 loop-holds : tie.Need-loop-holds Inv-loop μ-loop
 loop-holds c = search needs
 
-after-requires : tie.Need-after-requires Inv-loop μ-loop
-after-requires c κs = search needs
+issued-requires : tie.Need-issued-requires Inv-loop μ-loop
+issued-requires c κs = search needs
 
-add-i : tie.Need-add-i Inv-loop μ-loop
-add-i c = search needs
+to-all-requires : tie.Need-to-all-requires Inv-loop μ-loop
+to-all-requires c κs = search needs
+
+sub-left : tie.Need-sub-left Inv-loop μ-loop
+sub-left c = search needs
 
 loop-less : tie.Need-loop-less Inv-loop μ-loop
 loop-less c = search needs
@@ -46,10 +45,10 @@ stored-spec =
     (tie.spec
     Inv-loop
     μ-loop
-    issued-requires
     loop-holds
-    after-requires
-    add-i
+    issued-requires
+    to-all-requires
+    sub-left
     loop-less
     loop-again
     same-length

@@ -6,10 +6,10 @@ use Rattle.replay.proofs.fields.are_numbers.Statement.{statement}
 use Rattle.replay.proofs.fields.are_numbers.Tie as tie
 
 abbrev Inv-loop : tie.InvT-loop
-Inv-loop line n rest₀ left₀ rest left = left ≤ n
+Inv-loop line n others rest₀ left₀ rest left = left ≤ n
 
 abbrev μ-loop : tie.MeasureT-loop
-μ-loop line n rest₀ left₀ rest left = left
+μ-loop line n others rest₀ left₀ rest left = left
 
 loop-holds : tie.Need-loop-holds Inv-loop μ-loop
 loop-holds c = search needs

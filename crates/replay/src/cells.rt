@@ -1,0 +1,112 @@
+// What is held between two lines, as numbers in a lent slice; media and lock tables lie beside it. First come the records, as their
+// check sum takes them, then what a call gets beside them. A number outside the slice is 0 and is not stored.
+ghost use Prim.Native.Nat.{_≤_};
+ghost use lib.ListN.{length};
+
+// Of the register: session, generation, entries. An entry is three numbers: session, 0 if unresolved, closing mark.
+pub const ENTRIES: usize = 2;
+
+// Of each server: phase, session, generation, starting, issued and acknowledged mark; the entries that take handed over; standing
+// and recorded mark of each replica; the issued record.
+pub const SERVERS: usize = 23;
+
+pub const SERVER: usize = 49;
+
+pub const HANDED: usize = 6;
+
+pub const REPLICAS: usize = 27;
+
+pub const ISSUED: usize = 41;
+
+// How many numbers the records are.
+pub const RECORDS: usize = 219;
+
+// R and N.
+pub const SHAPE: usize = 219;
+
+// The lengths at which media and lock tables are lent.
+pub const LENT: usize = 221;
+
+// The bytes that a torn write leaves; a request's data and locks, and how many there are of each.
+pub const GIVEN: usize = 223;
+
+pub const DATA: usize = 231;
+
+pub const SIZE: usize = 239;
+
+pub const LOCKS: usize = 240;
+
+pub const COUNT: usize = 248;
+
+// How many numbers all are.
+pub const ALL: usize = 249;
+
+pub type Cells = [u64; 249];
+
+pub fn at(w: &[u64], k: usize) -> u64 {
+    if k < w.len() {
+        return w[k];
+    }
+    0
+}
+
+// What is held from number k on.
+pub fn from(w: &[u64], k: usize) -> &[u64] {
+    if w.len() < k {
+        return w;
+    }
+    &w[k..]
+}
+
+pub fn put(w: &mut Cells, k: usize, v: u64) {
+    if k < ALL {
+        w[k] = v;
+    }
+}
+
+// Some numbers from k on.
+pub fn put_run(w: &mut Cells, k: usize, s: &[u64])
+    requires { ⌜ k ≤ 500 ⌝ }
+    requires { ⌜ length (now s) ≤ 8 ⌝ }
+{
+    let mut i = 0;
+    while i < s.len() {
+        put(w, k + i, s[i]);
+        i += 1;
+    }
+}
+
+// The eight bytes from i on; 0 where there are fewer.
+fn eight(b: &[u8], i: usize) -> u64 {
+    if b.len() < 8 {
+        return 0;
+    }
+    if b.len() - 8 < i {
+        return 0;
+    }
+    let e = i + 8;
+    octets::get_be(&b[i..e])
+}
+
+// 64 bytes are eight numbers.
+pub fn put_bytes(w: &mut Cells, k: usize, b: &[u8; 64])
+    requires { ⌜ k ≤ 500 ⌝ }
+{
+    let mut i = 0;
+    while i < 8 {
+        put(w, k + i, eight(b, 8 * i));
+        i += 1;
+    }
+}
+
+pub fn bytes(w: &[u64], k: usize) -> [u8; 64]
+    requires { ⌜ k ≤ 500 ⌝ }
+{
+    let mut b = [0u8; 64];
+    let mut i = 0;
+    while i < 8 {
+        octets::put_be(&mut b, 8 * i, 8, at(w, k + i));
+        i += 1;
+    }
+    b
+}

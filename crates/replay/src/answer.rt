@@ -8,7 +8,7 @@ use crate::forms;
 use crate::forms::CALLS;
 use crate::lent;
 use crate::perform;
-use stored::print;
+use run_lines::print;
 
 // Makes the call that a line asks for, or takes what it hands in; false where it fits no form.
 pub fn fits(line: &[u8], m: &mut [u8; MEDIA], tables: &mut [u64; TABLES], w: &mut Cells) -> bool {

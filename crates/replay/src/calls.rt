@@ -5,8 +5,8 @@ use crate::fields;
 use cluster::Call;
 use cluster::Request;
 use fate::Fate;
-use stored::fates;
-use stored::fates::FateField;
+use run_lines::fates;
+use run_lines::fates::FateField;
 
 // The call, if the line fits one.
 pub enum Asked {

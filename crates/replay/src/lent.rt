@@ -11,9 +11,9 @@ use crate::fields;
 use crate::records;
 use crate::state;
 use cluster::Shape;
+use run_lines::hex;
 use storage::sizes::PLACE;
 use storage::sizes::SLOTS;
-use stored::hex;
 use text::line;
 
 // The most replicas and places of a fresh cluster.

@@ -16,7 +16,7 @@ use cluster::Call;
 use cluster::Outcome;
 use cluster::Refusal;
 use cluster::Shape;
-use stored::print;
+use run_lines::print;
 
 // The lock and its estimate stand behind number 15.
 fn print_refusal(why: Refusal) {

@@ -16,7 +16,7 @@ use crate::cells::SERVERS;
 use crate::cells::SHAPE;
 use crate::cells::SIZE;
 use crate::fields;
-use stored::hex;
+use run_lines::hex;
 use text::line;
 
 // The number of a server or replica that field k is; as many as all numbers are where there is none, so that what is counted from

@@ -5,7 +5,7 @@ ghost use mathlib.Core.Path.{_≡_};
 ghost use Rattle.crc32.specs.Tables.{tablesOf};
 use crc32::Tables;
 use libc::STDIN_FILENO;
-use stored::print;
+use run_lines::print;
 
 mod answer;
 mod media;

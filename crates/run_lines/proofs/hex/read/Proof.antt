@@ -7,8 +7,8 @@ use borrow.Author.Tests.{not-false}
 use Rattle.octets.proofs.Laws.{write-all}
 use Rattle.text.specs.Hex.{bytesOf}
 use Rattle.text.proofs.Pairs.{bytes-length}
-use Rattle.stored.proofs.hex.read.Statement.{statement}
-use Rattle.stored.proofs.hex.read.Tie as tie
+use Rattle.run_lines.proofs.hex.read.Statement.{statement}
+use Rattle.run_lines.proofs.hex.read.Tie as tie
 
 returns : tie.Need-returns
 returns c e = cc

@@ -3,11 +3,11 @@ use crate::MEDIA;
 use crate::TABLES;
 use crate::calls;
 use crate::calls::Asked;
-use crate::cells::Cells;
 use crate::forms;
 use crate::forms::CALLS;
 use crate::lent;
 use crate::perform;
+use replay_state::cells::Cells;
 use run_lines::print;
 
 // Makes the call that a line asks for, or takes what it hands in; false where it fits no form.

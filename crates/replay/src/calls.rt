@@ -1,10 +1,10 @@
 // The call that a line asks for. FATE stands for three fields, as in the vectors: 0 answered, 1 lost, 2 answer lost or 3 cut; the
 // write w; 0 old, 1 new or 2 torn.
 ghost use Prim.Native.Nat.{_≤_};
-use crate::fields;
 use cluster::Call;
 use cluster::Request;
 use fate::Fate;
+use replay_state::fields;
 use run_lines::fates;
 use run_lines::fates::FateField;
 

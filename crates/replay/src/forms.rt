@@ -3,7 +3,7 @@
 //   11 shape, 12 register, 13 entry, 14 server, 15 handed, 16 replica: numbers that are held; 17 lend; 18 locks
 //   19 held, 20 given, 21 data, 22 media: their last field is BYTES; 23 table; 24 fresh
 //   25 for a line that fits no form
-use crate::fields;
+use replay_state::fields;
 use text::line;
 
 pub const CALLS: u64 = 11;

@@ -4,20 +4,15 @@
 // (twin/src/replay.rs; its replay writes both files).
 ghost use Prim.Native.Nat.{_+_, _≤_};
 ghost use lib.ListN.{length};
-use crate::cells::ALL;
-use crate::cells::Cells;
 use libc::STDIN_FILENO;
+use replay_state::cells::ALL;
+use replay_state::cells::Cells;
 
 mod answer;
 mod calls;
-mod cells;
-mod fields;
 mod forms;
 mod lent;
 mod perform;
-mod records;
-mod state;
-mod sums;
 
 // The longest line that is answered.
 const LIMIT: usize = 2000;

@@ -1,21 +1,21 @@
 // A call made on what is held, its reply and the check sums after it.
 ghost use Prim.Native.Nat.{_≤_};
-use crate::cells;
-use crate::cells::COUNT;
-use crate::cells::Cells;
-use crate::cells::DATA;
-use crate::cells::GIVEN;
-use crate::cells::LENT;
-use crate::cells::LOCKS;
-use crate::cells::SHAPE;
-use crate::cells::SIZE;
-use crate::records;
-use crate::sums;
 use cluster::Answer;
 use cluster::Call;
 use cluster::Outcome;
 use cluster::Refusal;
 use cluster::Shape;
+use replay_state::cells;
+use replay_state::cells::COUNT;
+use replay_state::cells::Cells;
+use replay_state::cells::DATA;
+use replay_state::cells::GIVEN;
+use replay_state::cells::LENT;
+use replay_state::cells::LOCKS;
+use replay_state::cells::SHAPE;
+use replay_state::cells::SIZE;
+use replay_state::records;
+use replay_state::sums;
 use run_lines::print;
 
 // The lock and its estimate stand behind number 15.

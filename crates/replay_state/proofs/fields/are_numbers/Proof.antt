@@ -2,8 +2,8 @@
 -- Assumes nothing.
 use Prim.Native.Nat.{_≤_}
 use borrow.Author.Needs.{needs}
-use Rattle.replay.proofs.fields.are_numbers.Statement.{statement}
-use Rattle.replay.proofs.fields.are_numbers.Tie as tie
+use Rattle.replay_state.proofs.fields.are_numbers.Statement.{statement}
+use Rattle.replay_state.proofs.fields.are_numbers.Tie as tie
 
 abbrev Inv-loop : tie.InvT-loop
 Inv-loop line n others rest₀ left₀ rest left = left ≤ n

@@ -1,22 +1,20 @@
--- `cells::put_run`. The measure is how many are left.
+-- `sums::put_all`. The invariant: what is lent keeps its length.
 -- Assumes nothing.
-use Prim.Native.Nat.{_-_, _≤_}
+use mathlib.Core.Path.{_≡_}
+use Prim.Native.Nat.{_-_}
 use lib.ListN.{length}
 use borrow.Author.Needs.{needs}
-use Rattle.replay.proofs.cells.put_run.Statement.{statement}
-use Rattle.replay.proofs.cells.put_run.Tie as tie
+use Rattle.replay_state.proofs.sums.put_all.Statement.{statement}
+use Rattle.replay_state.proofs.sums.put_all.Tie as tie
 
 abbrev Inv-loop : tie.InvT-loop
-Inv-loop w₀ k s i₀ w i = i ≤ length s
+Inv-loop out₀ numbers i₀ out i = length out ≡ length out₀
 
 abbrev μ-loop : tie.MeasureT-loop
-μ-loop w₀ k s i₀ w i = length s - i
+μ-loop out₀ numbers i₀ out i = length numbers - i
 
 loop-holds : tie.Need-loop-holds Inv-loop μ-loop
 loop-holds c = search needs
-
-add-put : tie.Need-add-put Inv-loop μ-loop
-add-put c = search needs
 
 mul-put : tie.Need-mul-put Inv-loop μ-loop
 mul-put c = search needs
@@ -36,21 +34,24 @@ loop-less c = search needs
 loop-again : tie.Need-loop-again Inv-loop μ-loop
 loop-again c = search needs
 
+same-length : tie.Need-same-length Inv-loop μ-loop
+same-length c = search needs
+
 returns : tie.Need-returns Inv-loop μ-loop
 returns c = search needs
 
-pub put-run-spec : {M : Type 1} → statement M
-put-run-spec =
+pub put-all-spec : {M : Type 1} → statement M
+put-all-spec =
     tie.close
     (tie.spec
     Inv-loop
     μ-loop
     loop-holds
-    add-put
     mul-put
     shared-slice-read-put
     put-requires
     add-i
     loop-less
     loop-again
+    same-length
     returns)

@@ -5,8 +5,8 @@ use Prim.Native.Nat.{_-_}
 use lib.ListN.{length, length-set}
 use native.Mathlib.Omega.{arith}
 use borrow.Author.Needs.{needs}
-use Rattle.replay.proofs.records.entries.Statement.{statement}
-use Rattle.replay.proofs.records.entries.Tie as tie
+use Rattle.replay_state.proofs.records.entries.Statement.{statement}
+use Rattle.replay_state.proofs.records.entries.Tie as tie
 
 abbrev Inv-loop : tie.InvT-loop
 Inv-loop w k out₀ i₀ out i = length out ≡ 7

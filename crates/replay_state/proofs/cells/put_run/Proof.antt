@@ -1,20 +1,22 @@
--- `sums::put_all`. The invariant: what is lent keeps its length.
+-- `cells::put_run`. The measure is how many are left.
 -- Assumes nothing.
-use mathlib.Core.Path.{_≡_}
-use Prim.Native.Nat.{_-_}
+use Prim.Native.Nat.{_-_, _≤_}
 use lib.ListN.{length}
 use borrow.Author.Needs.{needs}
-use Rattle.replay.proofs.sums.put_all.Statement.{statement}
-use Rattle.replay.proofs.sums.put_all.Tie as tie
+use Rattle.replay_state.proofs.cells.put_run.Statement.{statement}
+use Rattle.replay_state.proofs.cells.put_run.Tie as tie
 
 abbrev Inv-loop : tie.InvT-loop
-Inv-loop out₀ numbers i₀ out i = length out ≡ length out₀
+Inv-loop w₀ k s i₀ w i = i ≤ length s
 
 abbrev μ-loop : tie.MeasureT-loop
-μ-loop out₀ numbers i₀ out i = length numbers - i
+μ-loop w₀ k s i₀ w i = length s - i
 
 loop-holds : tie.Need-loop-holds Inv-loop μ-loop
 loop-holds c = search needs
+
+add-put : tie.Need-add-put Inv-loop μ-loop
+add-put c = search needs
 
 mul-put : tie.Need-mul-put Inv-loop μ-loop
 mul-put c = search needs
@@ -34,24 +36,21 @@ loop-less c = search needs
 loop-again : tie.Need-loop-again Inv-loop μ-loop
 loop-again c = search needs
 
-same-length : tie.Need-same-length Inv-loop μ-loop
-same-length c = search needs
-
 returns : tie.Need-returns Inv-loop μ-loop
 returns c = search needs
 
-pub put-all-spec : {M : Type 1} → statement M
-put-all-spec =
+pub put-run-spec : {M : Type 1} → statement M
+put-run-spec =
     tie.close
     (tie.spec
     Inv-loop
     μ-loop
     loop-holds
+    add-put
     mul-put
     shared-slice-read-put
     put-requires
     add-i
     loop-less
     loop-again
-    same-length
     returns)

@@ -2,8 +2,8 @@
 -- Assumes nothing.
 use Prim.Native.Nat.{_-_, _≤_}
 use borrow.Author.Needs.{needs}
-use Rattle.replay.proofs.records.put_entries.Statement.{statement}
-use Rattle.replay.proofs.records.put_entries.Tie as tie
+use Rattle.replay_state.proofs.records.put_entries.Statement.{statement}
+use Rattle.replay_state.proofs.records.put_entries.Tie as tie
 
 abbrev Inv-loop : tie.InvT-loop
 Inv-loop w₀ k entries i₀ w i = i ≤ 7

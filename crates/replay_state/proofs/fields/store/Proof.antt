@@ -1,15 +1,15 @@
--- `cells::put_bytes`. The measure is how many of the eight are left.
+-- `fields::store`. The measure is the number of fields left.
 -- Assumes nothing.
 use Prim.Native.Nat.{_-_, _≤_}
 use borrow.Author.Needs.{needs}
-use Rattle.replay.proofs.cells.put_bytes.Statement.{statement}
-use Rattle.replay.proofs.cells.put_bytes.Tie as tie
+use Rattle.replay_state.proofs.fields.store.Statement.{statement}
+use Rattle.replay_state.proofs.fields.store.Tie as tie
 
 abbrev Inv-loop : tie.InvT-loop
-Inv-loop w₀ k b i₀ w i = i ≤ 8
+Inv-loop line k n w₀ i j₀ w j = j ≤ n
 
 abbrev μ-loop : tie.MeasureT-loop
-μ-loop w₀ k b i₀ w i = 8 - i
+μ-loop line k n w₀ i j₀ w j = n - j
 
 loop-holds : tie.Need-loop-holds Inv-loop μ-loop
 loop-holds c = search needs
@@ -17,17 +17,17 @@ loop-holds c = search needs
 add-put : tie.Need-add-put Inv-loop μ-loop
 add-put c = search needs
 
-mul-eight : tie.Need-mul-eight Inv-loop μ-loop
-mul-eight c = search needs
+add-at : tie.Need-add-at Inv-loop μ-loop
+add-at c = search needs
 
-eight-requires : tie.Need-eight-requires Inv-loop μ-loop
-eight-requires c κs = search needs
+at-requires : tie.Need-at-requires Inv-loop μ-loop
+at-requires c κs = search needs
 
 put-requires : tie.Need-put-requires Inv-loop μ-loop
 put-requires c κs = search needs
 
-add-i : tie.Need-add-i Inv-loop μ-loop
-add-i c = search needs
+add-j : tie.Need-add-j Inv-loop μ-loop
+add-j c = search needs
 
 loop-less : tie.Need-loop-less Inv-loop μ-loop
 loop-less c = search needs
@@ -38,18 +38,18 @@ loop-again c = search needs
 returns : tie.Need-returns Inv-loop μ-loop
 returns c = search needs
 
-pub put-bytes-spec : {M : Type 1} → statement M
-put-bytes-spec =
+pub store-spec : {M : Type 1} → statement M
+store-spec =
     tie.close
     (tie.spec
     Inv-loop
     μ-loop
     loop-holds
     add-put
-    mul-eight
-    eight-requires
+    add-at
+    at-requires
     put-requires
-    add-i
+    add-j
     loop-less
     loop-again
     returns)

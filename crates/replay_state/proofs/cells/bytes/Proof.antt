@@ -4,8 +4,8 @@ use mathlib.Core.Path.{_≡_}
 use Prim.Native.Nat.{_-_}
 use lib.ListN.{length}
 use borrow.Author.Needs.{needs}
-use Rattle.replay.proofs.cells.bytes.Statement.{statement}
-use Rattle.replay.proofs.cells.bytes.Tie as tie
+use Rattle.replay_state.proofs.cells.bytes.Statement.{statement}
+use Rattle.replay_state.proofs.cells.bytes.Tie as tie
 
 abbrev Inv-loop : tie.InvT-loop
 Inv-loop w k b₀ i₀ b i = length b ≡ 64

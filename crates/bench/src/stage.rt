@@ -1,4 +1,4 @@
-// The cluster that the jobs work on: seven replicas of 1,000 places, driven by the eleven calls alone.
+// The cluster that the jobs work on: seven replicas of 1,000 places, which one session may fill (K = N), driven by the eleven calls alone.
 use cluster::Answer;
 use cluster::Call;
 use cluster::Outcome;
@@ -29,6 +29,7 @@ pub fn begun(m: &mut [u8], tables: &mut [u64]) -> Records {
     let shape = Shape {
         replicas: REPLICAS,
         places: PLACES,
+        interval: PLACES,
     };
     let t = crc32::tables();
     fresh::start(&t, shape, m, tables)
@@ -42,6 +43,7 @@ pub fn make(r: Records, m: &mut [u8], tables: &mut [u64], call: Call) -> Outcome
     let shape = Shape {
         replicas: REPLICAS,
         places: PLACES,
+        interval: PLACES,
     };
     journal::apply::apply(shape, r, m, tables, call, &data, &none[0..0], &given)
 }

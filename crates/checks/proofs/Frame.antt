@@ -1,17 +1,14 @@
 -- The frame of every call: a part of its list that was checked, and the rest to come; and what the admission of a call leaves known.
 -- Assumes nothing.
 use mathlib.Core.Path.{_≡_, refl, sym, ap, _∙_}
-use mathlib.Core.Bool.{true, false, not}
+use mathlib.Core.Bool.{false, not}
 use mathlib.Core.List.{List, [], _∷_, _++_}
 use Prim.Native.Nat.{ℕ, zero, suc, _+_, _*_, _≤_, _<_}
 use native.Mathlib.Nat.{mul-le-mul}
 use native.Mathlib.Omega.{arith}
-use lib.Dec.{leb, ltb}
+use lib.Dec.{ltb}
 use lib.ListN.{length, getD, set}
-use borrow.Author.Tests.{lt-ltb, ltb-false, leb-true, not-false}
-use Rattle.base.specs.Below.{all}
-use Rattle.base.proofs.Below.{all-at}
-use Rattle.base.proofs.Tests.{both}
+use borrow.Author.Tests.{lt-ltb, ltb-false}
 use Rattle.storage.specs.Sizes.{mediumSize}
 use Rattle.cluster.specs.declared.Shape.{Shape}
 use Rattle.cluster.specs.declared.Phases.{Phases}
@@ -19,11 +16,12 @@ use Rattle.cluster.specs.declared.Records.{Records}
 use Rattle.cluster.specs.declared.Server.{Server}
 use Rattle.cluster.specs.declared.Refusal.{Refusal}
 use Rattle.cluster.specs.declared.Outcome.{Outcome}
-use Rattle.cluster.specs.State.{State, serverAt, markAt}
-use Rattle.cluster.specs.Refusals.{entriesFit, serverFits, markAbove, wrongPhase, allows, Row, row, serverRows, firstOf, andThen}
+use Rattle.cluster.specs.State.{State, serverAt}
+use Rattle.cluster.specs.Refusals.{wrongPhase, allows, Row, row, serverRows, firstOf, andThen}
 use Rattle.cluster.specs.Effects.{Result}
 use Rattle.cluster.specs.Step.{unless, rest}
 use Rattle.cluster.proofs.Rows.{firstOf-append, conditionOf, passed}
+use Rattle.cluster.proofs.Marks.{MarksFit, marks-fit}
 use Rattle.checks.specs.declared.Check.{Check}
 use Rattle.checks.specs.declared.Check.the-variants.{Pass, Refuse}
 use Rattle.checks.specs.Verdicts.{verdictOf, phaseAt}
@@ -68,34 +66,6 @@ phase-is r s phases e = rw (lt-ltb s 4 (omega (arith, ltb-false 3 s e)))
 
 -- ---- what the first rows leave known
 
--- refusal 2: a server's marks
-pub record Fits (h : Shape) (v : Server) : Type 0 where
-  pub marks : (i : ℕ) → i < h .replicas → markAt v i ≤ h .places
-  pub start : v .start ≤ h .places
-  pub issued : v .issued ≤ h .places
-  pub acked : v .acked ≤ h .places
-
-fits : (h : Shape) (v : Server) → serverFits h v ≡ true → Fits h v
-unfolding serverFits
-fits h v e =
-    let marks = all (λ i. leb (markAt v i) (h .places)) (h .replicas) in
-    let a = both _ (leb (v .acked) (h .places)) e in
-    let b = both _ (leb (v .issued) (h .places)) (a .0) in
-    let d = both _ (leb (v .start) (h .places)) (b .0) in
-    let m = both (entriesFit h (v .entries)) marks (d .0) in
-    record {
-      marks = λ i l. leb-true (markAt v i) (h .places) (all-at (λ i. leb (markAt v i) (h .places)) (h .replicas) i (m .1) l);
-      start = leb-true (v .start) (h .places) (d .1);
-      issued = leb-true (v .issued) (h .places) (b .1);
-      acked = leb-true (v .acked) (h .places) (a .1);
-    }
-
-pub server-fits : (h : Shape) (r : Records) (s : ℕ) → s < 4 → markAbove h r ≡ false → Fits h (serverAt r s)
-unfolding markAbove
-server-fits h r s l e =
-    let servers = all (λ s. serverFits h (serverAt r s)) 4 in
-    fits h (serverAt r s) (all-at (λ s. serverFits h (serverAt r s)) 4 s (both (entriesFit h (r .register .entries)) servers (not-false _ e) .1) l)
-
 medium-within : (i r n : ℕ) → i < r → i * n + n ≤ r * n
 medium-within i r n l = let q : (i + 1) * n ≤ r * n = mul-le-mul {n₂ = r} {m₂ = n} (omega arith) (omega arith) in omega arith
 
@@ -107,7 +77,7 @@ pub record Admitted (h : Shape) (v : Server) (s bytes marks : ℕ) : Type 0 wher
   pub media : (i : ℕ) → i < h .replicas → i * mediumSize (h .places) + mediumSize (h .places) ≤ bytes
   pub tables : marks ≡ 4096
   pub server : s < 4
-  pub fits : Fits h v
+  pub fits : MarksFit h v
 
 pub admitted :
     (h : Shape) (r : Records) (m t : List ℕ) (s : ℕ) (us : List Row) {k : Check}
@@ -125,5 +95,5 @@ admitted h r m t s us v q =
       media = λ i j. omega (arith, w .media, medium-within i (h .replicas) (mediumSize (h .places)) j);
       tables = w .tables;
       server = l;
-      fits = server-fits h r s l (no 2);
+      fits = marks-fit h r s l (no 2);
     }

@@ -7,7 +7,7 @@ use Prim.Native.Nat.{ℕ, _*_, _≤_, _<_, _^_}
 use native.Mathlib.Nat.{mul-le-mul}
 use native.Mathlib.Omega.{arith}
 use lib.Dec.{eqb, leb}
-use borrow.Author.Tests.{not-false, eqb-true, leb-true, lt-leb, le-leb, eq-eqb, ne-eqb}
+use borrow.Author.Tests.{not-false, eqb-true, leb-true, eq-eqb, ne-eqb}
 use Rattle.base.proofs.Tests.{both, either, neither}
 use Rattle.storage.specs.Sizes.{mediumSize}
 use Rattle.cluster.specs.declared.Shape.{Shape}
@@ -21,6 +21,9 @@ replicas-le r h =
     (λ a. omega (arith, eqb-true r 7 a))
     (either (eqb r 1 || eqb r 3 || eqb r 5) (eqb r 7) h)
 
+pub at-most : (limit n : ℕ) → (leb 1 n && leb n limit) ≡ true → n ≤ limit
+at-most limit n e = leb-true n limit (both (leb 1 n) (leb n limit) e .1)
+
 pub media-fit : (r n : ℕ) → r ≤ 7 → n ≤ 1000 → r * mediumSize n < 2 ^ 64
 media-fit r n hr hn =
     let p : r * mediumSize n ≤ 7 * 64064 = mul-le-mul {n₂ = 7} {m₂ = 64064} hr (omega arith) in
@@ -32,23 +35,23 @@ module _ (h : Shape) (media tables : ℕ) where
   out-replicas e = rw e
 
   module _ (fit : replicasFit (h .replicas) ≡ true) where
-    pub out-few : h .places < 1 → true ≡ outside h media tables
+    pub out-places : (leb 1 (h .places) && leb (h .places) 1000) ≡ false → true ≡ outside h media tables
     unfolding outside
-    out-few l = rw (fit, lt-leb 1 (h .places) l)
+    out-places e = rw (fit, e)
 
-    module _ (few : 1 ≤ h .places) where
-      pub out-many : 1000 < h .places → true ≡ outside h media tables
+    module _ (sized : (leb 1 (h .places) && leb (h .places) 1000) ≡ true) where
+      pub out-interval : (leb 1 (h .interval) && leb (h .interval) (h .places)) ≡ false → true ≡ outside h media tables
       unfolding outside
-      out-many l = rw (fit, le-leb 1 (h .places) few, lt-leb (h .places) 1000 l)
+      out-interval e = rw (fit, sized, e)
 
-      module _ (most : h .places ≤ 1000) where
+      module _ (spaced : (leb 1 (h .interval) && leb (h .interval) (h .places)) ≡ true) where
         pub out-media : (media ≡ h .replicas * mediumSize (h .places) → ⊥) → true ≡ outside h media tables
         unfolding outside
-        out-media ne = rw (fit, le-leb 1 (h .places) few, le-leb (h .places) 1000 most, ne-eqb media (h .replicas * mediumSize (h .places)) ne)
+        out-media ne = rw (fit, sized, spaced, ne-eqb media (h .replicas * mediumSize (h .places)) ne)
 
         pub by-tables : media ≡ h .replicas * mediumSize (h .places) → not (eqb tables 4096) ≡ outside h media tables
         unfolding outside
-        by-tables e = rw (fit, le-leb 1 (h .places) few, le-leb (h .places) 1000 most, eq-eqb media (h .replicas * mediumSize (h .places)) e)
+        by-tables e = rw (fit, sized, spaced, eq-eqb media (h .replicas * mediumSize (h .places)) e)
 
 -- what a passed refusal 1 says
 pub record Within (h : Shape) (m t : ℕ) : Type 0 where
@@ -63,11 +66,12 @@ unfolding outside
 within h media tables e =
     let r = not (replicasFit (h .replicas)) in
     let p = not (leb 1 (h .places) && leb (h .places) 1000) in
+    let k = not (leb 1 (h .interval) && leb (h .interval) (h .places)) in
     let m = not (eqb media (h .replicas * mediumSize (h .places))) in
     let t = not (eqb tables (4 * 1024)) in
-    let e₃ = neither (r || p || m) t e in
-    let e₂ = neither (r || p) m (e₃ .0) in
-    let e₁ = neither r p (e₂ .0) in
+    let e₃ = neither (r || p || k || m) t e in
+    let e₂ = neither (r || p || k) m (e₃ .0) in
+    let e₁ = neither r p (neither (r || p) k (e₂ .0) .0) in
     let b = both (leb 1 (h .places)) (leb (h .places) 1000) (not-false _ (e₁ .1)) in
     record {
       replicas = replicas-le (h .replicas) (not-false _ (e₁ .0));

@@ -7,6 +7,7 @@ ghost use mathlib.Core.Bool.{_&&_, _||_, not, false};
 ghost use mathlib.Core.List.{List, [], _∷_};
 ghost use Prim.Native.Nat.{ℕ, _≤_, _<_};
 ghost use lib.ListN.{length, getD, replicate};
+ghost use lib.Dec.{leb};
 ghost use Rattle.base.specs.Below.{upTo};
 ghost use Rattle.cluster.specs.Refusals.{replicasFit, outside, closingFits, entriesFit, serverFits, markAbove, allows, clusterRows, serverRows, phaseRows, replicaRows, firstOf, andThen};
 ghost use Rattle.checks.specs.Results.{stateOf, declinedOf, silentOf, valueOf, doneOf, changed, unchanged};
@@ -74,7 +75,14 @@ fn replicas_fit(r: u64) -> bool
     r == 7
 }
 
-// 1: R or N is outside its values, or a lent slice has another length.
+// From 1 to a limit.
+fn from_one_to(limit: u64, x: u64) -> bool
+    ensures { λ b. ⌜ b ≡ (leb 1 x && leb x limit) ⌝ }
+{
+    both(1 <= x, x <= limit)
+}
+
+// 1: R, N or K is outside its values, or a lent slice has another length.
 fn is_outside(shape: Shape, media: usize, tables: usize) -> bool
     ensures { λ b. ⌜ b ≡ outside shape media tables ⌝ }
 {
@@ -83,10 +91,10 @@ fn is_outside(shape: Shape, media: usize, tables: usize) -> bool
     if !replicas_fit(r) {
         return true;
     }
-    if n < 1 {
+    if !from_one_to(sizes::PLACES_LIMIT, n) {
         return true;
     }
-    if sizes::PLACES_LIMIT < n {
+    if !from_one_to(n, shape.interval) {
         return true;
     }
     if media != r as usize * sizes::medium_size(n) {

@@ -3,15 +3,13 @@
 -- the mark that every way gives. The statement comes first, then its proof; the theorems are `open-decides` and `trim-decides`.
 -- Assumes nothing.
 use mathlib.Core.Path.{_≡_, refl, sym, ap, _∙_}
-use mathlib.Core.Bool.{Bool, true, false, not, cond, _||_, false≢true}
+use mathlib.Core.Bool.{Bool, true, false, not, cond, _||_}
 use mathlib.Core.Logic.{_↔_, _⊎_, inl, inr, ⊎-elim}
 use mathlib.Core.List.{List, [], _∷_, _++_}
 use Prim.Native.Nat.{ℕ, _<_}
 use native.Mathlib.Omega.{arith}
 use lib.Dec.{eqb, leb}
-use borrow.Author.Tests.{not-false, eqb-true, eq-eqb, leb-true, ltb-false}
-use Rattle.base.specs.Below.{all}
-use Rattle.base.proofs.Below.{all-at}
+use borrow.Author.Tests.{not-false, eqb-true, leb-true, ltb-false}
 use Rattle.base.proofs.Tests.{both, either, neither}
 use Rattle.quorum.specs.Vote.{decided}
 use Rattle.quorum.proofs.Filling.{EveryFillingGives, FillingsDiffer, ClusterSize, KnownWithin}
@@ -22,10 +20,12 @@ use Rattle.cluster.specs.declared.Server.{Server}
 use Rattle.cluster.specs.declared.Call.the-variants as call
 use Rattle.cluster.specs.State.{State, serverAt, markAt, votesAt}
 use Rattle.cluster.specs.Replies.{ok, no, silent}
-use Rattle.cluster.specs.Refusals.{Input, replicasFit, outside, entriesFit, serverFits, markAbove, noReplicaAt, onlyOpening, isCut, undecided, voteMark, tooFewClean, nothingToTrim, sessionDiffers, answered, seen, Row, row, phaseRows, replicaRows, messageRows, receivedAt, rowsOf, Verdict, pass, declined, firstOf, andThen}
+use Rattle.cluster.specs.Refusals.{Input, replicasFit, outside, markAbove, noReplicaAt, onlyOpening, isCut, undecided, voteMark, tooFewClean, nothingToTrim, sessionDiffers, answered, seen, Row, row, phaseRows, replicaRows, messageRows, receivedAt, rowsOf, pass, firstOf}
 use Rattle.cluster.specs.Effects.{Result, trimEffect, openEffect}
 use Rattle.cluster.specs.Step.{effect, unless, rest, step}
-use Rattle.cluster.proofs.Rows.{firstOf-append, passed}
+use Rattle.cluster.proofs.Rows.{passed}
+use Rattle.cluster.proofs.Marks.{marks-fit}
+use Rattle.cluster.proofs.Numbers.{mentions, other-number, behind, ok-passes}
 use Rattle.cluster.proofs.Declines.{declines, never-no}
 
 -- ---- the statement
@@ -72,48 +72,12 @@ odd r e =
 size-of : (h : Shape) (media tables : ℕ) → outside h media tables ≡ false → ClusterSize (h .replicas) (h .places)
 unfolding outside
 size-of h media tables e =
-    let a = neither _ _ (neither _ _ (neither _ _ e .0) .0) in
+    let a = neither _ _ (neither _ _ (neither _ _ (neither _ _ e .0) .0) .0) in
     let b = both (leb 1 (h .places)) (leb (h .places) 1000) (not-false _ (a .1)) in
     (odd (h .replicas) (not-false _ (a .0)), leb-true 1 (h .places) (b .0), leb-true (h .places) 1000 (b .1))
 
 known-of : (h : Shape) (x : State) (s : ℕ) → markAbove h (x .records) ≡ false → s < 4 → KnownWithin (votesAt (serverAt (x .records) s)) (markAt (serverAt (x .records) s)) (h .replicas) (h .places)
-unfolding markAbove serverFits
-known-of h x s e l i k q =
-    let v = serverAt (x .records) s in
-    let a = both (entriesFit h (x .records .register .entries)) (all (λ t. serverFits h (serverAt (x .records) t)) 4) (not-false _ e) in
-    let b = both _ (leb (v .acked) (h .places)) (all-at (λ t. serverFits h (serverAt (x .records) t)) 4 s (a .1) l) .0 in
-    let c = both _ (leb (v .issued) (h .places)) b .0 in
-    let d = both _ (leb (v .start) (h .places)) c .0 in
-    let m = both (entriesFit h (v .entries)) (all (λ j. leb (markAt v j) (h .places)) (h .replicas)) d .1 in
-    leb-true (markAt v i) (h .places) (all-at (λ j. leb (markAt v j) (h .places)) (h .replicas) i m k)
-
--- ---- a list behind rows that pass
-
-mentions : ℕ → List Row → Bool
-mentions n [] = false
-mentions n (w ∷ ws) = cond (eqb (w .number) n) true (mentions n ws)
-
--- a number that no row of a list has is not given by it
-other-number : (ws : List Row) (x : State) (e : Result) (n : ℕ) (values : List ℕ) → mentions n ws ≡ false → rest ws x e .reply ≡ no n values → e .reply ≡ no n values
-unfolding unless firstOf mentions
-other-number [] x e n values m q = q
-other-number (w ∷ ws) x e n values m q = go (eqb (w .number) n) refl (w .holds) m q (other-number ws x e n values)
-  where
-    go :
-        (b : Bool)
-        → eqb (w .number) n ≡ b
-        → (c : Bool)
-        → cond b true (mentions n ws) ≡ false
-        → unless (cond c (declined (w .number) (w .values)) (firstOf ws)) x e .reply ≡ no n values
-        → (mentions n ws ≡ false → rest ws x e .reply ≡ no n values → e .reply ≡ no n values)
-        → e .reply ≡ no n values
-    go true eb c m q more = absurd (false≢true (sym m))
-    go false eb true m q more = let same : w .number ≡ n = cc in absurd (false≢true (sym eb ∙ eq-eqb (w .number) n same))
-    go false eb false m q more = more m q
-
-behind : (ws us : List Row) (x : State) (e : Result) → firstOf ws ≡ pass → rest (ws ++ us) x e ≡ rest us x e
-unfolding andThen
-behind ws us x e q = rw (firstOf-append ws us, q)
+known-of h x s e l i k q = marks-fit h (x .records) s l e .marks i k
 
 -- the reply of a list whose first row is number 8, of a vote that is decided or not
 module _ (us : List Row) (x : State) (e : Result) (b : Bool) (m : mentions 8 us ≡ false) (never : e .reply ≡ no 8 [] → ⊥) where
@@ -128,11 +92,7 @@ module _ (us : List Row) (x : State) (e : Result) (b : Bool) (m : mentions 8 us 
 -- a call that is answered ok was not declined
 ok-reply : (ws : List Row) (x : State) (e : Result) (values : List ℕ) → rest ws x e .reply ≡ ok values → e .reply ≡ ok values
 unfolding unless
-ok-reply ws x e values q = go (firstOf ws) q
-  where
-    go : (d : Verdict) → unless d x e .reply ≡ ok values → e .reply ≡ ok values
-    go pass q = q
-    go (declined n vs) q = let z : _≡_ {A = ℕ} 0 1 = cc in absurd (omega arith)
+ok-reply ws x e values q = rw (ok-passes ws x e values q) at q
 
 same-values : (b : Bool) (us vs : List ℕ) → cond b (ok us) silent ≡ ok vs → vs ≡ us
 same-values true us vs e = cc

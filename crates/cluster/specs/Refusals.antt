@@ -1,4 +1,4 @@
--- Why a call is declined: document 01's list. First the conditions, each under its sentence and a function of what it looks at; then each
+-- Why a call is declined: document 01's list, and what document 02 adds to it. First the conditions, each under its sentence and a function of what it looks at; then each
 -- call's own list of them.
 -- Assumes nothing.
 use Prim.Native.Nat.{ℕ, _+_, _*_, _^_}
@@ -55,7 +55,8 @@ row n b = record { number = n; holds = b; values = [] }
 
 -- ================ the conditions
 
--- 1 "R or N is outside its values, or a lent slice has another length": media and tables are the lengths of the lent slices
+-- 1 "R or N is outside its values, or a lent slice has another length": media and tables are the lengths of the lent slices. Document 02,
+-- No. 1: "A K outside 1 to N meets refusal 1"
 unfoldable pub replicasFit : ℕ → Bool
 replicasFit r = eqb r 1 || eqb r 3 || eqb r 5 || eqb r 7
 
@@ -63,6 +64,7 @@ unfoldable pub outside : Shape → ℕ → ℕ → Bool
 outside h media tables =
     not (replicasFit (h .replicas))
     || not (leb 1 (h .places) && leb (h .places) placesLimit)
+    || not (leb 1 (h .interval) && leb (h .interval) (h .places))
     || not (eqb media (h .replicas * mediumSize (h .places)))
     || not (eqb tables (4 * tableSize))
 
@@ -160,7 +162,7 @@ cleanAt v d i = activeAt v i && eqb (markAt v i) d
 abbrev pub tooFewClean : ℕ → Server → ℕ → Bool
 tooFewClean r v d = ltb (count (cleanAt v d) r) (quorum r)
 
--- 10 to 15 are issue's. 10 "The request's generation isn't the session's"
+-- 10 to 15, and 23 among them, are issue's. 10 "The request's generation isn't the session's"
 abbrev pub otherGeneration : Server → Request → Bool
 otherGeneration v q = not (eqb (q .generation) (v .generation))
 
@@ -182,6 +184,11 @@ unacknowledged v = ltb (v .acked) (v .issued)
 -- 14 "The log is full: issued = N"
 abbrev pub full : ℕ → Server → Bool
 full N v = eqb (v .issued) N
+
+-- 23, document 02, No. 1: "given by issue, just after 14, when issued less the starting mark is K or more". The difference is that of the
+-- numbers: an issued mark below the starting one, which can be handed in, is never that much more.
+abbrev pub checkpointDue : ℕ → Server → Bool
+checkpointDue K v = leb (v .start + K) (v .issued)
 
 -- 15 "A lock's estimate is not below the client's mark (004: the client's mark must be higher); the first such lock and its estimate
 -- are given"
@@ -264,9 +271,9 @@ seen f n b = row n (answered f && b)
 
 -- ================ the lists
 
--- "Checked in this order": the order of the numbers, which each call's own list follows (proofs/Declines)
+-- "Checked in this order": the order of the numbers, which each call's own list follows (proofs/Declines); 23 is "just after 14"
 abbrev pub order : List ℕ
-order = 1 ∷ 2 ∷ 3 ∷ 4 ∷ 5 ∷ 6 ∷ 7 ∷ 8 ∷ 9 ∷ 10 ∷ 11 ∷ 12 ∷ 13 ∷ 14 ∷ 15 ∷ 16 ∷ 17 ∷ 18 ∷ 19 ∷ 20 ∷ 21 ∷ 22 ∷ []
+order = 1 ∷ 2 ∷ 3 ∷ 4 ∷ 5 ∷ 6 ∷ 7 ∷ 8 ∷ 9 ∷ 10 ∷ 11 ∷ 12 ∷ 13 ∷ 14 ∷ 23 ∷ 15 ∷ 16 ∷ 17 ∷ 18 ∷ 19 ∷ 20 ∷ 21 ∷ 22 ∷ []
 
 -- what a call is checked for: before anything is looked at, before its message is sent, and by the receiver of the message
 pub record Checks : Type 0 where
@@ -324,13 +331,14 @@ abbrev pub receivedAt : ℕ → Server → ℕ → List ℕ → Fate → List Ro
 receivedAt N v i media f = receivedRows N (v .session) (markAt v i) (mediumAt N i media) f
 
 -- issue's own: of a request with so many bytes of data, by a server's record and lock table
-abbrev pub requestRows : ℕ → Server → Request → ℕ → List ℕ → List ℕ → List Row
-requestRows N v q size table locks =
+abbrev pub requestRows : Shape → Server → Request → ℕ → List ℕ → List ℕ → List Row
+requestRows h v q size table locks =
     row 10 (otherGeneration v q)
     ∷ row 11 (clientAhead v q)
     ∷ row 12 (tooMuch size (length locks))
     ∷ row 13 (unacknowledged v)
-    ∷ row 14 (full N v)
+    ∷ row 14 (full (h .places) v)
+    ∷ row 23 (checkpointDue (h .interval) v)
     ∷ lockRow (firstHeld table locks (q .mark))
     ∷ []
 
@@ -376,7 +384,7 @@ checksOf h x p (call.Open s f) =
 checksOf h x p (call.Issue s q) =
     record {
       admission = phaseRows h x s onlyOpen;
-      sending = requestRows (h .places) (serverAt (x .records) s) q (length (p .content)) (tableAt s (x .tables)) (p .locks);
+      sending = requestRows h (serverAt (x .records) s) q (length (p .content)) (tableAt s (x .tables)) (p .locks);
       receiving = [];
     }
 checksOf h x p (call.Send s i f) =

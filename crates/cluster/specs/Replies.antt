@@ -13,7 +13,8 @@ pub data Reply : Type 0 where
   no : ℕ → List ℕ → Reply
   silent : Reply
 
--- the number of each refusal in the list of document 01, "Why a call is declined"
+-- the number of each refusal in the list of document 01, "Why a call is declined"; document 02: "Number 23, which like each below joins
+-- document 01's list"
 abbrev pub numberOf : Refusal → ℕ
 numberOf why.OutsideShape = 1
 numberOf why.MarkAbovePlaces = 2
@@ -29,6 +30,7 @@ numberOf why.ClientAhead = 11
 numberOf why.TooMuch = 12
 numberOf why.Unacknowledged = 13
 numberOf why.Full = 14
+numberOf why.CheckpointDue = 23
 numberOf (why.Locked k e) = 15
 numberOf why.NothingToDo = 16
 numberOf why.UnfitSource = 17
@@ -54,6 +56,7 @@ valuesOf why.ClientAhead = []
 valuesOf why.TooMuch = []
 valuesOf why.Unacknowledged = []
 valuesOf why.Full = []
+valuesOf why.CheckpointDue = []
 valuesOf (why.Locked k e) = k ∷ e ∷ []
 valuesOf why.NothingToDo = []
 valuesOf why.UnfitSource = []

@@ -13,10 +13,11 @@ pub const TABLE: usize = 1024;
 
 pub const TABLES: usize = 4096;
 
-// R, the number of replicas, and N, the places of each medium.
+// R, the number of replicas; N, the places of each medium; K, the checkpoint interval: so many IDs a session may issue.
 pub struct Shape {
     pub replicas: u64,
     pub places: u64,
+    pub interval: u64,
 }
 
 // The closing part of an entry: the mark at which a later session closed the replica's log, or none yet.
@@ -97,7 +98,8 @@ pub enum Call {
     Reassign,
 }
 
-// Why a call is declined, in document 01's order. Locked: the lock and its estimate.
+// Why a call is declined, in the order in which it is checked (document 01's list, and document 02's number that joins it). Locked: the lock
+// and its estimate.
 pub enum Refusal {
     OutsideShape,
     MarkAbovePlaces,
@@ -113,6 +115,7 @@ pub enum Refusal {
     TooMuch,
     Unacknowledged,
     Full,
+    CheckpointDue,
     Locked(u64, u64),
     NothingToDo,
     UnfitSource,

@@ -3,7 +3,8 @@
 --
 -- The demand, clause by clause, and where it is said:
 --   "Each call of its list gets register, media, server records and lock tables as the one before left them, with the cluster's R and N; nobody else
---     writes these meanwhile."                                          History.antt `along`, from the fresh cluster's `beginning`
+--     writes these meanwhile." Document 02, No. 1: "an interval K, 1 to N, fixed and handed to each call beside R and N"
+--                                                                       History.antt `along`, from the fresh cluster's `beginning`; `InRange`, below
 --   "It is one statement about the whole list, not one for each call."  `Guarantee`, below: for every list es
 --   "A declined call answers nothing."                                  History.antt `heard`
 --   "A server's calls belong to the session that its last take answered"  History.antt `current`, told of a take
@@ -62,11 +63,15 @@ use Rattle.guarantee.specs.History.{Element, Transaction, Logged, log, H
 
 -- ================ for which clusters and lists
 
--- "R replicas (R = 1, 3, 5 or 7), each with a medium of N places (1 to 1,000)"
+-- "R replicas (R = 1, 3, 5 or 7), each with a medium of N places (1 to 1,000)"; document 02, No. 1: "an interval K, 1 to N". "Bookings made before
+-- the forced change must be found after it like any others": the change to a next session that K forces is one between two opened sessions, so
+-- conclusions (1) and (2) say just that, and no conclusion names K.
 pub record InRange (h : Shape) : Type 0 where
   pub replicas : (h .replicas ≡ 1) ⊎ (h .replicas ≡ 3) ⊎ (h .replicas ≡ 5) ⊎ (h .replicas ≡ 7)
   pub least : 1 ≤ h .places
   pub most : h .places ≤ 1000
+  pub interval-least : 1 ≤ h .interval
+  pub interval-most : h .interval ≤ h .places
 
 -- Arguments within their widths, as far as the guarantee needs it. The types of the running calls say this, and more: here servers, replicas, IDs, marks
 -- and locks may be any numbers.

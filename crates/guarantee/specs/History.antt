@@ -200,7 +200,8 @@ beginning h =
       history = record { calls = 0; current = λ s. 0; standing = λ i n. none; sessions = λ s. unopened };
     }
 
--- "Each call of its list gets register, media, server records and lock tables as the one before left them, with the cluster's R and N"
+-- "Each call of its list gets register, media, server records and lock tables as the one before left them, with the cluster's R and N"; document 02,
+-- No. 1: K is "fixed and handed to each call beside R and N". h is all three.
 unfoldable pub along : Shape → Moment → List Element → Moment
 along h m [] = m
 along h m (e ∷ es) = along h (next h m e) es

@@ -27,7 +27,7 @@ use Rattle.lines.specs.Forms.{Meaning, bad, cluster, asked, lineOf, dataOf, loc
 use Rattle.lines.specs.Texts.{textOf, replyText}
 use Rattle.interpreter.specs.declared.answer.Held.{Held}
 use Rattle.interpreter.specs.Shapes.{accepted}
-use Rattle.interpreter.specs.Answers.{afterOf, unchanged, clusterOf, holding, clusterLine, inputOf, replied, callLine, answerTo, nothing}
+use Rattle.interpreter.specs.Answers.{afterOf, unchanged, clusterOf, holding, scripted, clusterLine, inputOf, replied, callLine, answerTo, nothing}
 
 -- ---- a cluster line, and a call: what was lent is the first n bytes
 
@@ -83,13 +83,13 @@ bad-line (cluster r n) p m tables e = let z : _≡_ {A = ℕ} 0 1 = cc e in absu
 bad-line (asked c d l) p m tables e = let z : _≡_ {A = ℕ} 0 1 = cc e in absurd (omega arith)
 
 pub cluster-line : (w : Meaning) (p : Held) (m tables : List ℕ) (r n : ℕ) → line.Cluster r n ≡ lineOf w
-    → clusterLine (record { replicas = r; places = n }) p m tables ≡ answerTo w p m tables
+    → clusterLine (scripted r n) p m tables ≡ answerTo w p m tables
 unfolding answerTo
 cluster-line bad p m tables r n e = let z : _≡_ {A = ℕ} 0 1 = cc e in absurd (omega arith)
 cluster-line (cluster r′ n′) p m tables r n e =
     let a : r ≡ r′ = cc e in
     let b : n ≡ n′ = cc e in
-    ap₂ (λ (x y : ℕ). clusterLine (record { replicas = x; places = y }) p m tables) a b
+    ap₂ (λ (x y : ℕ). clusterLine (scripted x y) p m tables) a b
 cluster-line (asked c d l) p m tables r n e = let z : _≡_ {A = ℕ} 0 1 = cc e in absurd (omega arith)
 
 pub first-written : (ds x y : List ℕ) (n : ℕ) → n ≡ length ds → y ≡ writeAt 0 ds x → take n y ≡ ds

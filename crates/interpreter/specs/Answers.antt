@@ -33,7 +33,9 @@ afterOf n m tables = record { text = textOf (n .printed); held = n .held; media 
 
 -- before the first cluster line: of a shape that none has, so that a call is bad; its records are those of a fresh cluster
 unfoldable pub nothing : Held
-nothing = record { shape = record { replicas = 0; places = 0 }; records = fresh (record { replicas = 0; places = 0 }) .records }
+nothing =
+    let none : Shape = record { replicas = 0; places = 0; interval = 0 } in
+    record { shape = none; records = fresh none .records }
 
 -- "does nothing": all is as it was
 abbrev pub unchanged : List ℕ → Held → List ℕ → List ℕ → After
@@ -46,6 +48,10 @@ clusterOf p m tables = record { records = p .records; media = take (p .shape .re
 -- a cluster is held instead
 abbrev pub holding : List ℕ → Shape → State → List ℕ → After
 holding text h x m = record { text = text; held = record { shape = h; records = x .records }; media = writeAt 0 (x .media) m; tables = x .tables }
+
+-- document 02, No. 1: "the script uses K = N"
+abbrev pub scripted : ℕ → ℕ → Shape
+scripted r n = record { replicas = r; places = n; interval = n }
 
 -- "Each accepted cluster line starts afresh", "answers no 1 above that"
 abbrev pub clusterLine : Shape → Held → List ℕ → List ℕ → After
@@ -66,5 +72,5 @@ callLine i p m tables =
 
 unfoldable pub answerTo : Meaning → Held → List ℕ → List ℕ → After
 answerTo bad p m tables = unchanged (textOf printed.Bad) p m tables
-answerTo (cluster r n) p m tables = clusterLine (record { replicas = r; places = n }) p m tables
+answerTo (cluster r n) p m tables = clusterLine (scripted r n) p m tables
 answerTo (asked c content locks) p m tables = callLine (inputOf c content locks) p m tables

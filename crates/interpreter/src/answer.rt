@@ -40,6 +40,7 @@ pub fn nothing() -> Held
         shape: Shape {
             replicas: 0,
             places: 0,
+            interval: 0,
         },
         records: fresh::records(),
     }
@@ -183,6 +184,7 @@ pub fn answer(
             Shape {
                 replicas: r,
                 places: n,
+                interval: n,
             },
             m,
             tables,

@@ -42,7 +42,7 @@ fn put_whole(out: &mut [u8], text: &[u8]) -> usize
     text.len()
 }
 
-// The number of each refusal in document 01's list.
+// The number of each refusal in document 01's list, which document 02's join.
 pub fn number_of(why: Refusal) -> u64
     ensures { λ r. ⌜ r ≡ numberOf why ⌝ }
 {
@@ -61,6 +61,7 @@ pub fn number_of(why: Refusal) -> u64
         Refusal::TooMuch => 12,
         Refusal::Unacknowledged => 13,
         Refusal::Full => 14,
+        Refusal::CheckpointDue => 23,
         Refusal::Locked(_, _) => 15,
         Refusal::NothingToDo => 16,
         Refusal::UnfitSource => 17,

@@ -3,6 +3,7 @@ ghost use mathlib.Core.Path.{_≡_};
 ghost use mathlib.Core.List.{[], _∷_};
 ghost use Prim.Native.Nat.{_+_, _≤_, _<_, _^_};
 ghost use lib.ListN.{length};
+ghost use lib.Dec.{leb};
 ghost use Rattle.locks.specs.Locks.{firstHeld, markedAll};
 ghost use Rattle.storage.specs.Sizes.{dataLimit};
 ghost use Rattle.storage.specs.Places.{recordBytes};
@@ -51,6 +52,16 @@ fn lock_check(t: LockTest) -> Check
     }
 }
 
+// 23: issued less the starting mark is K or more. An issued mark below the starting one is no more than it.
+fn checkpoint_due(interval: u64, start: u64, issued: u64) -> bool
+    ensures { λ b. ⌜ b ≡ leb (start + interval) issued ⌝ }
+{
+    if issued < start {
+        return false;
+    }
+    interval <= issued - start
+}
+
 // 15, of a request that was not declined before: only then are its locks looked up in server i's table.
 fn also_locks(k: Check, tables: &[u64], i: usize, locks: &[u64], client: u64) -> Check
     requires { ⌜ (i < 4) × (length (now tables) ≡ 4096) ⌝ }
@@ -66,7 +77,7 @@ fn also_locks(k: Check, tables: &[u64], i: usize, locks: &[u64], client: u64) ->
 
 // issue's own refusals, in their order: of a request with so many bytes of data, by server i's record and lock table.
 fn judge(
-    places: u64,
+    shape: Shape,
     v: Server,
     request: Request,
     size: usize,
@@ -75,8 +86,10 @@ fn judge(
     locks: &[u64],
 ) -> Check
     requires { ⌜ (i < 4) × (length (now tables) ≡ 4096) ⌝ }
-    ensures { λ k. ⌜ verdictOf k ≡ firstOf (requestRows places v request size (tableAt i (now (tables .entry))) (now (locks .entry))) ⌝ }
+    ensures { λ k. ⌜ verdictOf k ≡ firstOf (requestRows shape v request size (tableAt i (now (tables .entry))) (now (locks .entry))) ⌝ }
 {
+    let full = v.issued == shape.places;
+    let due = checkpoint_due(shape.interval, v.start, v.issued);
     let k = Check::Pass;
     let k = also(
         k,
@@ -86,7 +99,8 @@ fn judge(
     let k = also(k, v.acked < request.mark, Refusal::ClientAhead);
     let k = also(k, exceeds(size, locks.len()), Refusal::TooMuch);
     let k = also(k, v.acked < v.issued, Refusal::Unacknowledged);
-    let k = also(k, v.issued == places, Refusal::Full);
+    let k = also(k, full, Refusal::Full);
+    let k = also(k, due, Refusal::CheckpointDue);
     also_locks(k, tables, i, locks, request.mark)
 }
 
@@ -159,7 +173,7 @@ pub fn issue(
     }
     let i = server as usize;
     let v = records.servers[i];
-    let k = judge(shape.places, v, request, content.len(), tables, i, locks);
+    let k = judge(shape, v, request, content.len(), tables, i, locks);
     match k {
         Check::Refuse(why) => checks::declined(records, why),
         Check::Pass => {

@@ -84,10 +84,10 @@ serverAtMark n =
 abbrev pub requestAtMark : ℕ → Request
 requestAtMark n = record { mark = n; client = 0; generation = 0; partition = 0; sequence = 0; header = 0 }
 
--- issue's own refusals, of a cluster of 1,000 places and a request without data
+-- issue's own refusals, of a cluster of 1,000 places, in which a session may issue as many IDs, and a request without data
 abbrev pub requestOn : ℕ → ℕ → ℕ → Verdict
 requestOn k entry client =
-    firstOf (requestRows 1000 (serverAtMark client) (requestAtMark client) 0 (replicate 1024 entry) (k ∷ []))
+    firstOf (requestRows (record { replicas = 1; places = 1000; interval = 1000 }) (serverAtMark client) (requestAtMark client) 0 (replicate 1024 entry) (k ∷ []))
 
 abbrev pub Says : Example → Type 0
 Says (vote marks v) = voteIn marks ≡ v

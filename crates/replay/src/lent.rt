@@ -45,17 +45,19 @@ fn begin(shape: Shape, m: &mut [u8], tables: &mut [u64], w: &mut Cells)
     let n = [
         shape.replicas,
         shape.places,
+        shape.interval,
         m.len() as u64,
         tables.len() as u64,
     ];
     cells::put_run(w, SHAPE, &n);
 }
 
-// fresh, R, N: a fresh cluster of any R up to 7.
+// fresh, R, N, K: a fresh cluster of any R up to 7.
 fn fresh_line(line: &[u8], m: &mut [u8], tables: &mut [u64], w: &mut Cells) -> bool {
     let shape = Shape {
         replicas: fields::at(line, 1),
         places: fields::at(line, 2),
+        interval: fields::at(line, 3),
     };
     if REPLICAS < shape.replicas || PLACES < shape.places {
         return false;

@@ -72,6 +72,7 @@ fn shape(w: &Cells) -> Shape {
     Shape {
         replicas: cells::at(w, SHAPE),
         places: cells::at(w, SHAPE + 1),
+        interval: cells::at(w, SHAPE + 2),
     }
 }
 

@@ -21,27 +21,27 @@ pub const ISSUED: usize = 41;
 // How many numbers the records are.
 pub const RECORDS: usize = 219;
 
-// R and N.
+// R, N and K.
 pub const SHAPE: usize = 219;
 
 // The lengths at which media and lock tables are lent.
-pub const LENT: usize = 221;
+pub const LENT: usize = 222;
 
 // The bytes that a torn write leaves; a request's data and locks, and how many there are of each.
-pub const GIVEN: usize = 223;
+pub const GIVEN: usize = 224;
 
-pub const DATA: usize = 231;
+pub const DATA: usize = 232;
 
-pub const SIZE: usize = 239;
+pub const SIZE: usize = 240;
 
-pub const LOCKS: usize = 240;
+pub const LOCKS: usize = 241;
 
-pub const COUNT: usize = 248;
+pub const COUNT: usize = 249;
 
 // How many numbers all are.
-pub const ALL: usize = 249;
+pub const ALL: usize = 250;
 
-pub type Cells = [u64; 249];
+pub type Cells = [u64; 250];
 
 pub fn at(w: &[u64], k: usize) -> u64 {
     if k < w.len() {

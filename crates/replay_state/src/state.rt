@@ -23,7 +23,7 @@ use text::line;
 // there lies behind them.
 fn index(line: &[u8], k: usize, limit: u64) -> usize
     requires { ⌜ limit ≤ 7 ⌝ }
-    ensures { λ r. ⌜ r ≤ 249 ⌝ }
+    ensures { λ r. ⌜ r ≤ 250 ⌝ }
 {
     let v = fields::at(line, k);
     if v < limit {
@@ -34,7 +34,7 @@ fn index(line: &[u8], k: usize, limit: u64) -> usize
 
 // Where the record of the server that field 1 names begins.
 fn server(line: &[u8]) -> usize
-    ensures { λ r. ⌜ r ≤ 12224 ⌝ }
+    ensures { λ r. ⌜ r ≤ 12273 ⌝ }
 {
     SERVERS + SERVER * index(line, 1, 4)
 }
@@ -69,7 +69,7 @@ fn count(kind: u64) -> usize
     ensures { λ r. ⌜ r ≤ 6 ⌝ }
 {
     match kind {
-        13 | 15 => 3,
+        11 | 13 | 15 => 3,
         14 => 6,
         _ => 2,
     }
@@ -84,7 +84,7 @@ fn generation(kind: u64) -> usize {
     }
 }
 
-// shape, R, N; register, session, generation; entry, replica, ENTRY: of the register; server, number, phase (0 idle, 1 opening, else
+// shape, R, N, K; register, session, generation; entry, replica, ENTRY: of the register; server, number, phase (0 idle, 1 opening, else
 // open), session, generation, starting, issued and acknowledged mark; handed, server, replica, ENTRY: an entry that take handed over;
 // replica, server, replica, standing (0 out, 1 in, else dropped), recorded mark. ENTRY stands for session, 0 for unresolved or another
 // number, closing mark.

@@ -33,10 +33,11 @@ use Rattle.cluster.specs.declared.Call.the-variants as call
 use Rattle.cluster.specs.State.{State, serverAt, tableSize, tableAt, withTable}
 use Rattle.cluster.specs.Refusals.{lockLimit, isHeld}
 use Rattle.cluster.specs.Effects.{issuedFields, issuedServer, issueEffect}
+use Rattle.cluster.proofs.Marks.{marks-fit}
 use Rattle.guarantee.specs.History.{History, Logged, issuedAs, told}
 use Rattle.guarantee.proofs.Ties.{rowOf, storyOf, loggedOf, OpenTie, ServerTie, ServersTie, SessionTie, SessionsTie, Sim}
 use Rattle.guarantee.proofs.Frames.{server-frame, alone-in, table-others, table-written, session-frame}
-use Rattle.guarantee.proofs.Passing.{below-four, is-open, within}
+use Rattle.guarantee.proofs.Passing.{below-four, is-open}
 use Rattle.guarantee.proofs.Sessions.{setAt-same, setAt-other, told-issued}
 use Rattle.guarantee.proofs.Facts.{open-lives}
 use Rattle.guarantee.proofs.Played.{with-call, Before, Played}
@@ -106,7 +107,7 @@ module _ (h : Shape) (x : State) (H : History) (σ : protocol.State) (content lo
 
   room : n ≤ h .places
   room =
-      omega (arith, within h x s (B .passed 2) (below-four s (B .passed 3)) .issued, eqb-false (v .issued) (h .places) (B .passed 14))
+      omega (arith, marks-fit h (x .records) s (below-four s (B .passed 3)) (B .passed 2) .issued, eqb-false (v .issued) (h .places) (B .passed 14))
 
   valid : validPlace n (tx .bytes) ≡ true
   valid =

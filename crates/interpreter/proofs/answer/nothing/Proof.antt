@@ -13,7 +13,7 @@ records-requires : tie.Need-records-requires
 records-requires c κs = search needs
 
 with-records : Records → Held
-with-records r = record { shape = record { replicas = 0; places = 0 }; records = r }
+with-records r = record { shape = record { replicas = 0; places = 0; interval = 0 }; records = r }
 
 returns : tie.Need-returns
 unfolding fresh nothing with-records

@@ -1,0 +1,72 @@
+-- What the number of a reply says of the rows of a list: those before it pass, and a list that does not have it does not give it.
+-- Assumes nothing.
+use mathlib.Core.Path.{_≡_, refl, sym, ap, _∙_}
+use mathlib.Core.Bool.{Bool, true, false, cond, false≢true}
+use mathlib.Core.List.{List, [], _∷_, _++_}
+use Prim.Native.Nat.{ℕ}
+use native.Mathlib.Omega.{arith}
+use lib.Dec.{eqb}
+use borrow.Author.Tests.{eq-eqb}
+use Rattle.cluster.specs.State.{State}
+use Rattle.cluster.specs.Replies.{ok, no}
+use Rattle.cluster.specs.Refusals.{Row, Verdict, pass, declined, firstOf, andThen}
+use Rattle.cluster.specs.Effects.{Result}
+use Rattle.cluster.specs.Step.{unless, rest}
+use Rattle.cluster.proofs.Rows.{firstOf-append}
+
+unfoldable pub mentions : ℕ → List Row → Bool
+mentions n [] = false
+mentions n (w ∷ ws) = cond (eqb (w .number) n) true (mentions n ws)
+
+given : (ws : List Row) (n : ℕ) (values : List ℕ) → firstOf ws ≡ declined n values → mentions n ws ≡ true
+unfolding firstOf mentions
+given [] n values e = let z : _≡_ {A = ℕ} 0 1 = cc in absurd (omega arith)
+given (w ∷ ws) n values e = go (w .holds) e (eqb (w .number) n) refl (given ws n values)
+  where
+    go :
+        (c : Bool)
+        → cond c (declined (w .number) (w .values)) (firstOf ws) ≡ declined n values
+        → (b : Bool)
+        → eqb (w .number) n ≡ b
+        → (firstOf ws ≡ declined n values → mentions n ws ≡ true)
+        → cond b true (mentions n ws) ≡ true
+    go c e true eb more = refl
+    go true e false eb more = let same : w .number ≡ n = cc in absurd (false≢true (sym eb ∙ eq-eqb (w .number) n same))
+    go false e false eb more = more e
+
+module _ (ws : List Row) (x : State) (e : Result) (n : ℕ) (values : List ℕ) (unmentioned : mentions n ws ≡ false) where
+  not-given : (k : ℕ) (vs : List ℕ) → firstOf ws ≡ declined k vs → no k vs ≡ no n values → ⊥
+  not-given k vs d q =
+      let same : k ≡ n = cc in
+      false≢true (sym unmentioned ∙ given ws n vs (d ∙ ap (λ (i : ℕ). declined i vs) same))
+
+  -- a number that no row of a list has is not given by it
+  pub other-number : rest ws x e .reply ≡ no n values → e .reply ≡ no n values
+  unfolding unless
+  other-number q = go (firstOf ws) refl q
+    where
+      go : (d : Verdict) → firstOf ws ≡ d → unless d x e .reply ≡ no n values → e .reply ≡ no n values
+      go pass f q = q
+      go (declined k vs) f q = absurd (not-given k vs f q)
+
+  -- where a list that begins with ws gives it, ws passes
+  pub passes-before : (us : List Row) → rest (ws ++ us) x e .reply ≡ no n values → firstOf ws ≡ pass
+  unfolding unless andThen
+  passes-before us q = go (firstOf ws) refl (rw (firstOf-append ws us) at q)
+    where
+      go : (d : Verdict) → firstOf ws ≡ d → unless (andThen d us) x e .reply ≡ no n values → d ≡ pass
+      go pass f q = refl
+      go (declined k vs) f q = absurd (not-given k vs f q)
+
+pub behind : (ws us : List Row) (x : State) (e : Result) → firstOf ws ≡ pass → rest (ws ++ us) x e ≡ rest us x e
+unfolding andThen
+behind ws us x e q = rw (firstOf-append ws us, q)
+
+-- a call that is answered ok was not declined
+pub ok-passes : (ws : List Row) (x : State) (e : Result) (values : List ℕ) → rest ws x e .reply ≡ ok values → firstOf ws ≡ pass
+unfolding unless
+ok-passes ws x e values q = go (firstOf ws) q
+  where
+    go : (d : Verdict) → unless d x e .reply ≡ ok values → d ≡ pass
+    go pass q = refl
+    go (declined n vs) q = let z : _≡_ {A = ℕ} 0 1 = cc in absurd (omega arith)

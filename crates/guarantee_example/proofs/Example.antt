@@ -1,52 +1,37 @@
 -- The list of specs/Example.antt comes to what is said there, and it is one of the guarantee's lists, of which all three conclusions say something.
 -- Assumes nothing.
-use mathlib.Core.Path.{_≡_, refl, sym, ap, _∙_, subst⁻¹}
-use mathlib.Core.Bool.{true, true≢false}
+use mathlib.Core.Path.{_≡_, refl, ap, subst⁻¹}
+use mathlib.Core.Bool.{true}
 use mathlib.Core.Logic.{inl, inr}
-use mathlib.Core.List.{List, [], _∷_, _++_}
+use mathlib.Core.List.{List, [], _++_}
 use mathlib.Core.Option.{some}
 use Prim.Native.Nat.{ℕ, _≤_}
 use native.Mathlib.Omega.{arith}
 use native.Mathlib.Decide.{ℕ-discrete}
 use lib.Dec.{lit<, lit≤}
-use Rattle.octets.specs.Octets.{Bytes}
-use Rattle.fate.specs.declared.Fate.{Fate}
 use Rattle.fate.specs.declared.Fate.the-variants.{Answered, Cut}
 use Rattle.fate.specs.declared.Left.the-variants.{New}
-use Rattle.cluster.specs.declared.Request.{Request}
-use Rattle.cluster.specs.declared.Call.{Call}
-use Rattle.cluster.specs.declared.Call.the-variants as call
-use Rattle.cluster.specs.State.{State, fresh}
-use Rattle.cluster.specs.Replies.{Reply}
-use Rattle.guarantee.specs.History.{Element, Logged, log, History, setAt, told, heard, beginning, along}
-use Rattle.guarantee.specs.Guarantee.{InRange, Fits, CoveredAll, Share, Kept}
+use Rattle.cluster.specs.State.{fresh}
+use Rattle.guarantee.specs.History.{Logged, log, History, setAt, told, heard, beginning, along}
+use Rattle.guarantee.specs.Guarantee.{InRange, Share, Kept}
 use Rattle.guarantee.proofs.Guarantee.{guarantee}
-use Rattle.guarantee_example.specs.Example.{shape, plain, request, issuing, calls-1, calls-2, calls-3, calls-4, calls-5, calls, replies-1, replies-2, replies-3, replies-4, replies-5, first, second, third}
-use Rattle.guarantee_example.proofs.Outline.{Line, outline, outline-then, retold, retold-is, ReadAll, FitEach, covers}
+use Rattle.guarantee_example.specs.Example.{shape, calls-1, calls-2, calls-3, calls-4, calls-5, calls, replies-1, replies-2, replies-3, replies-4, replies-5, first, second, third}
+use Rattle.guarantee_example.proofs.Outline.{Line, outline, retold, ReadAll, FitEach}
+use Rattle.guarantee_example.proofs.Worked.{lines, opened-at, repliesIn, then-lines, told-by, covered, found}
+use Rattle.guarantee_example.proofs.Fitting.{issuing-fits, take, prepare, opens, send, copy, fit-then}
 use Rattle.guarantee_example.proofs.States.{state-1, state-2, state-3, state-4}
-use Rattle.guarantee_example.proofs.Parts.{lines, opened-at, part-1, part-2, part-3, part-4, part-5}
+use Rattle.guarantee_example.proofs.Parts.{part-1, part-2, part-3, part-4, part-5}
 
 -- ================ the whole list
 
 abbrev expected : List Line
 expected = opened-at 4 0 1 (lines replies-1) ++ (lines replies-2 ++ (lines replies-3 ++ (lines replies-4 ++ opened-at 1 3 2 (lines replies-5))))
 
-then-lines : (x y : State) (es fs : List Element) (ls ms : List Line) → outline shape x es ≡ (ls, y) → outline shape y fs .0 ≡ ms
-    → outline shape x (es ++ fs) .0 ≡ ls ++ ms
-then-lines x y es fs ls ms p q =
-    ap (λ (o : List Line × State). o .0) (outline-then shape x es fs)
-    ∙ ap (λ (o : List Line × State). o .0 ++ outline shape (o .1) fs .0) p
-    ∙ ap (λ (l : List Line). ls ++ l) q
-
 all-lines : outline shape (fresh shape) calls .0 ≡ expected
 all-lines =
-    then-lines (fresh shape) state-1 calls-1 (calls-2 ++ (calls-3 ++ (calls-4 ++ calls-5))) _ _ part-1
-    (then-lines state-1 state-2 calls-2 (calls-3 ++ (calls-4 ++ calls-5)) _ _ part-2
-    (then-lines state-2 state-3 calls-3 (calls-4 ++ calls-5) _ _ part-3 (then-lines state-3 state-4 calls-4 calls-5 _ _ part-4 part-5)))
-
-abbrev repliesIn : List Line → List Reply
-repliesIn [] = []
-repliesIn (l ∷ ls) = l .reply ∷ repliesIn ls
+    then-lines shape (fresh shape) state-1 calls-1 (calls-2 ++ (calls-3 ++ (calls-4 ++ calls-5))) _ _ part-1
+    (then-lines shape state-1 state-2 calls-2 (calls-3 ++ (calls-4 ++ calls-5)) _ _ part-2
+    (then-lines shape state-2 state-3 calls-3 (calls-4 ++ calls-5) _ _ part-3 (then-lines shape state-3 state-4 calls-4 calls-5 _ _ part-4 part-5)))
 
 pub replied : repliesIn (outline shape (fresh shape) calls .0) ≡ replies-1 ++ (replies-2 ++ (replies-3 ++ (replies-4 ++ replies-5)))
 replied = ap repliesIn all-lines
@@ -55,12 +40,6 @@ replied = ap repliesIn all-lines
 
 unfoldable pub finally : History
 finally = along shape (beginning shape) calls .history
-
-retold-here : finally ≡ retold shape (fresh shape) calls expected (beginning shape .history)
-unfolding finally beginning
-retold-here =
-    retold-is shape calls (beginning shape)
-    ∙ ap (λ (ls : List Line). retold shape (fresh shape) calls ls (beginning shape .history)) all-lines
 
 pub record Shown (H : History) : Type 0 where
   pub opened-1 : H .sessions 1 .opened ≡ true
@@ -78,44 +57,13 @@ shown-by =
     record { opened-1 = refl; opened-2 = refl; start-2 = refl; acknowledged-1 = refl; acknowledged-2 = refl; first-1 = refl; second-1 = refl; third-1 = refl }
 
 pub shown : Shown finally
-shown = subst⁻¹ Shown retold-here shown-by
+unfolding finally
+shown = subst⁻¹ Shown (told-by shape calls expected all-lines) shown-by
 
 -- ================ the guarantee speaks of it
 
 in-range : InRange shape
-in-range = record { replicas = inr (inl refl); least = lit≤ tt; most = lit≤ tt }
-
-plain-fits : (c : Call) → ((s : ℕ) (q : Request) → c ≡ call.Issue s q → ⊥) → Fits (plain c .input)
-plain-fits c n = record { given = λ m. refl; content = tt; request = λ s q e. absurd (n s q e) }
-
-issuing-fits : (mark : ℕ) (locks content : List ℕ) → Bytes content → Fits (issuing mark locks content .input)
-issuing-fits mark locks content b =
-    record {
-      given = λ m. absurd (true≢false (sym m));
-      content = b;
-      request = λ s q e.
-          let r : request mark ≡ q = cc in
-          rw (← r) (record { client = lit< tt; generation = lit< tt; partition = lit< tt; sequence = lit< tt; header = lit< tt });
-    }
-
-take : (s : ℕ) → Fits (plain (call.Take s Answered) .input)
-take s = plain-fits (call.Take s Answered) (λ t q e. let z : _≡_ {A = ℕ} 0 1 = cc in omega arith)
-
-prepare : (s i : ℕ) → Fits (plain (call.Prepare s i Answered) .input)
-prepare s i = plain-fits (call.Prepare s i Answered) (λ t q e. let z : _≡_ {A = ℕ} 0 1 = cc in omega arith)
-
-opens : (s : ℕ) → Fits (plain (call.Open s Answered) .input)
-opens s = plain-fits (call.Open s Answered) (λ t q e. let z : _≡_ {A = ℕ} 0 1 = cc in omega arith)
-
-send : (i : ℕ) (f : Fate) → Fits (plain (call.Send 0 i f) .input)
-send i f = plain-fits (call.Send 0 i f) (λ t q e. let z : _≡_ {A = ℕ} 0 1 = cc in omega arith)
-
-copy : Fits (plain (call.Copy 1 0 2 Answered) .input)
-copy = plain-fits (call.Copy 1 0 2 Answered) (λ t q e. let z : _≡_ {A = ℕ} 0 1 = cc in omega arith)
-
-fit-then : (es fs : List Element) → FitEach es → FitEach fs → FitEach (es ++ fs)
-fit-then [] fs a b = b
-fit-then (e ∷ es) fs a b = (a .0, fit-then es fs (a .1) b)
+in-range = record { replicas = inr (inl refl); least = lit≤ tt; most = lit≤ tt; interval-least = lit≤ tt; interval-most = lit≤ tt }
 
 fits-1 : FitEach calls-1
 fits-1 = (take 0, (prepare 0 0, (prepare 0 1, (prepare 0 2, (opens 0, tt)))))
@@ -133,7 +81,7 @@ fits-4 : FitEach calls-4
 fits-4 = (take 1, (prepare 1 0, (prepare 1 2, (opens 1, tt))))
 
 fits-5 : FitEach calls-5
-fits-5 = (copy, (opens 1, (send 1 Answered, tt)))
+fits-5 = (copy 1 0 2, (opens 1, (send 1 Answered, tt)))
 
 fits : FitEach calls
 fits =
@@ -144,78 +92,11 @@ fits =
 -- replica 2 is read by both opens
 read-all : ReadAll shape (fresh shape) calls expected (beginning shape .history)
 unfolding told heard setAt beginning ℕ-discrete
-read-all = (
-  tt,
-  (
-    tt,
-    (
-      tt,
-      (
-        tt,
-        (
-          (lit< tt, refl),
-          (
-            tt,
-            (
-              tt,
-              (
-                tt,
-                (
-                  tt,
-                  (
-                    tt,
-                    (
-                      tt,
-                      (
-                        tt,
-                        (
-                          tt,
-                          (
-                            tt,
-                            (
-                              tt,
-                              (
-                                tt,
-                                (
-                                  tt,
-                                  (
-                                    tt,
-                                    (
-                                      tt,
-                                      (
-                                        tt,
-                                        (tt, ((lit< tt, refl), (tt, tt))),
-                                      ),
-                                    ),
-                                  ),
-                                ),
-                              ),
-                            ),
-                          ),
-                        ),
-                      ),
-                    ),
-                  ),
-                ),
-              ),
-            ),
-          ),
-        ),
-      ),
-    ),
-  ),
-)
-
-covered : CoveredAll shape (beginning shape) calls
-unfolding beginning
-covered =
-    covers shape calls (beginning shape)
-    fits
-    (subst⁻¹ (λ (ls : List Line). ReadAll shape (fresh shape) calls ls (beginning shape .history)) all-lines read-all)
+read-all = ((lit< tt, refl), ((lit< tt, refl), tt))
 
 kept : Kept finally
 unfolding finally
-kept = guarantee shape in-range calls covered
+kept = guarantee shape in-range calls (covered shape calls expected all-lines fits read-all)
 
 -- ================ what it says of it
 
@@ -224,20 +105,18 @@ pub start : finally .sessions 1 .acknowledged ≤ finally .sessions 2 .start
 start = kept .start 1 2 (shown .opened-1) (shown .opened-2) (lit< tt)
 
 -- (2) and stands in its log
-found : (n : ℕ) (x : Logged) → 1 ≤ n → n ≤ 3 → log (finally .sessions 1) n ≡ some x → log (finally .sessions 2) n ≡ some x
-found n x lo hi e =
-    let w =
-    kept .same 1 2 n (shown .opened-1) (shown .opened-2) lo (omega (arith, shown .acknowledged-1)) (omega (arith, shown .acknowledged-2)) in
-    w .2 ∙ sym (w .1) ∙ e
+also : (n : ℕ) (x : Logged) → 1 ≤ n → n ≤ 3 → log (finally .sessions 1) n ≡ some x → log (finally .sessions 2) n ≡ some x
+also n x lo hi e =
+    found finally kept 1 2 n x (shown .opened-1) (shown .opened-2) lo (omega (arith, shown .acknowledged-1)) (omega (arith, shown .acknowledged-2)) e
 
 pub first-2 : log (finally .sessions 2) 1 ≡ some first
-first-2 = found 1 first (lit≤ tt) (lit≤ tt) (shown .first-1)
+first-2 = also 1 first (lit≤ tt) (lit≤ tt) (shown .first-1)
 
 pub second-2 : log (finally .sessions 2) 2 ≡ some second
-second-2 = found 2 second (lit≤ tt) (lit≤ tt) (shown .second-1)
+second-2 = also 2 second (lit≤ tt) (lit≤ tt) (shown .second-1)
 
 pub third-2 : log (finally .sessions 2) 3 ≡ some third
-third-2 = found 3 third (lit≤ tt) (lit≤ tt) (shown .third-1)
+third-2 = also 3 third (lit≤ tt) (lit≤ tt) (shown .third-1)
 
 -- (3) ID 2 stands above the mark of ID 3's client and below ID 3: they share no lock
 pub apart : ¬ Share (third .transaction) (second .transaction)

@@ -1,6 +1,10 @@
--- Outline: how the history and the guarantee's premise are read off replies. Parts: the replies, worked out. Example: what the guarantee says of the list.
+-- Outline: how the history and the guarantee's premise are read off replies. Worked, Fitting: the same for lists of this crate. States, Parts: the
+-- replies of specs/Example.antt, worked out. Example, Checkpoint: what the guarantee says of each list.
 pub mod Outline
+pub mod Worked
+pub mod Fitting
 pub mod Written
 pub mod States
 pub mod Parts
 pub mod Example
+pub mod Checkpoint

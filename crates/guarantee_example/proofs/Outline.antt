@@ -133,9 +133,10 @@ retold-is h (e ∷ es) m = ap (λ (k : Moment). along h k es .history) (next-is 
 
 -- ================ the guarantee speaks of it
 
-abbrev Read : ℕ → ℕ → ℕ → Option Opens → Type 0
-Read R reader session none = Unit {0}
-Read R reader session (some o) = (reader < R) × (o .entry ≡ session)
+-- a replica that is read has the session in its entry; and so on
+abbrev Read : ℕ → ℕ → ℕ → Option Opens → Type 0 → Type 0
+Read R reader session none more = more
+Read R reader session (some o) more = ((reader < R) × (o .entry ≡ session)) × more
 
 -- the server of an open
 abbrev opener : Call → ℕ
@@ -151,41 +152,47 @@ opener (call.Read s i n f) = 0
 opener (call.Stop s) = 0
 opener call.Reassign = 0
 
--- each replica that is read has the session in its entry
+-- each replica that is read has the session in its entry: a pair for each call that opens one
 abbrev pub ReadAll : Shape → State → List Element → List Line → History → Type 0
 ReadAll h x [] ls H = Unit {0}
 ReadAll h x (e ∷ es) [] H = Unit {0}
 ReadAll h x (e ∷ es) (l ∷ ls) H =
     Read (h .replicas) (e .reader) (H .current (opener (e .input .call))) (l .opens)
-    × ReadAll h (step h x (e .input) .state) es ls (nextBy h x e l H)
+    (ReadAll h (step h x (e .input) .state) es ls (nextBy h x e l H))
 
 abbrev pub FitEach : List Element → Type 0
 FitEach [] = Unit {0}
 FitEach (e ∷ es) = Fits (e .input) × FitEach es
 
-reads : (h : Shape) (x : State) (H : History) (e : Element) (c : Call) → Read (h .replicas) (e .reader) (H .current (opener c)) (opensBy h x e c)
+further : (R reader session : ℕ) (o : Option Opens) (more : Type 0) → Read R reader session o more → more
+further R reader session none more r = r
+further R reader session (some o) more r = r .1
+
+reads : (h : Shape) (x : State) (H : History) (e : Element) (c : Call) (more : Type 0)
+    → Read (h .replicas) (e .reader) (H .current (opener c)) (opensBy h x e c) more
     → (s : ℕ) (f : Fate) → c ≡ call.Open s f
     → let k = step h x (e .input) .state .records .register in
     changed (x .records .register) k ≡ true → (e .reader < h .replicas) × (entryAt (k .entries) (e .reader) .session ≡ H .current s)
-reads h x H e (call.Open t g) r s f q =
+reads h x H e (call.Open t g) more r s f q =
     let st : t ≡ s = cc in
-    λ c. let w = rw c at r in (w .0, w .1 ∙ ap (H .current) st)
-reads h x H e (call.Take t g) r s f q = let z : _≡_ {A = ℕ} 0 1 = cc in absurd (omega arith)
-reads h x H e (call.Prepare t i g) r s f q = let z : _≡_ {A = ℕ} 0 1 = cc in absurd (omega arith)
-reads h x H e (call.Copy t a b g) r s f q = let z : _≡_ {A = ℕ} 0 1 = cc in absurd (omega arith)
-reads h x H e (call.Trim t i g) r s f q = let z : _≡_ {A = ℕ} 0 1 = cc in absurd (omega arith)
-reads h x H e (call.Issue t p) r s f q = let z : _≡_ {A = ℕ} 0 1 = cc in absurd (omega arith)
-reads h x H e (call.Send t i g) r s f q = let z : _≡_ {A = ℕ} 0 1 = cc in absurd (omega arith)
-reads h x H e (call.Note t i g) r s f q = let z : _≡_ {A = ℕ} 0 1 = cc in absurd (omega arith)
-reads h x H e (call.Read t i n g) r s f q = let z : _≡_ {A = ℕ} 0 1 = cc in absurd (omega arith)
-reads h x H e (call.Stop t) r s f q = let z : _≡_ {A = ℕ} 0 1 = cc in absurd (omega arith)
-reads h x H e call.Reassign r s f q = let z : _≡_ {A = ℕ} 0 1 = cc in absurd (omega arith)
+    λ c. let w = rw c at r in (w .0 .0, w .0 .1 ∙ ap (H .current) st)
+reads h x H e (call.Take t g) more r s f q = let z : _≡_ {A = ℕ} 0 1 = cc in absurd (omega arith)
+reads h x H e (call.Prepare t i g) more r s f q = let z : _≡_ {A = ℕ} 0 1 = cc in absurd (omega arith)
+reads h x H e (call.Copy t a b g) more r s f q = let z : _≡_ {A = ℕ} 0 1 = cc in absurd (omega arith)
+reads h x H e (call.Trim t i g) more r s f q = let z : _≡_ {A = ℕ} 0 1 = cc in absurd (omega arith)
+reads h x H e (call.Issue t p) more r s f q = let z : _≡_ {A = ℕ} 0 1 = cc in absurd (omega arith)
+reads h x H e (call.Send t i g) more r s f q = let z : _≡_ {A = ℕ} 0 1 = cc in absurd (omega arith)
+reads h x H e (call.Note t i g) more r s f q = let z : _≡_ {A = ℕ} 0 1 = cc in absurd (omega arith)
+reads h x H e (call.Read t i n g) more r s f q = let z : _≡_ {A = ℕ} 0 1 = cc in absurd (omega arith)
+reads h x H e (call.Stop t) more r s f q = let z : _≡_ {A = ℕ} 0 1 = cc in absurd (omega arith)
+reads h x H e call.Reassign more r s f q = let z : _≡_ {A = ℕ} 0 1 = cc in absurd (omega arith)
 
 pub covers : (h : Shape) (es : List Element) (m : Moment) → FitEach es → ReadAll h (m .state) es (outline h (m .state) es .0) (m .history)
     → CoveredAll h m es
 unfolding outline next
 covers h [] m fit read = tt
 covers h (e ∷ es) m fit read = (
-  record { fits = fit .0; reads = reads h (m .state) (m .history) e (e .input .call) (read .0) },
-  subst⁻¹ (λ (k : Moment). CoveredAll h k es) (next-is h m e) (covers h es _ (fit .1) (read .1)),
+  record { fits = fit .0; reads = reads h (m .state) (m .history) e (e .input .call) _ read },
+  subst⁻¹ (λ (k : Moment). CoveredAll h k es) (next-is h m e)
+      (covers h es _ (fit .1) (further _ _ _ (opensBy h (m .state) e (e .input .call)) _ read)),
 )

@@ -1,4 +1,4 @@
--- The states after each part of the list, written out, so that no part works out again what those before it leave.
+-- The states after each part of the list of specs/Example.antt, written out, so that no part works out again what those before it leave.
 -- Assumes nothing.
 use mathlib.Core.Bool.{Bool, true, false}
 use mathlib.Core.List.{List, [], _∷_, _++_}
@@ -14,7 +14,7 @@ use Rattle.cluster.specs.State.{State, freshEntry, idleServer, tableSize}
 use Rattle.guarantee_example.proofs.Written.{record-1, record-2, record-3, blank, slot-0, slot-1, slot-2}
 
 -- a value for each of the three replicas, in an array of seven
-abbrev three : {A : Type 0} → A → A → A → A → List A
+abbrev pub three : {A : Type 0} → A → A → A → A → List A
 three d a b c = a ∷ b ∷ c ∷ d ∷ d ∷ d ∷ d ∷ []
 
 -- the register in this session, after session 1 was opened with all three

@@ -1,5 +1,5 @@
 -- The records of IDs 1 to 3, a wiped place, and the slots that promise sessions 0 to 2, to the byte: a list written out is read faster than one
--- that has to be worked out each time. Parts.antt shows that the calls leave just these.
+-- that has to be worked out each time. Parts.antt and Checkpoint.antt show that the calls leave just these.
 -- Assumes nothing.
 use mathlib.Core.List.{List, [], _∷_}
 use Prim.Native.Nat.{ℕ}

@@ -1,34 +1,17 @@
--- A list of 23 calls on three replicas with three places each, in five parts, and what it comes to.
+-- A list of 23 calls on three replicas with three places each, which one session may fill, in five parts, and what it comes to.
 -- proofs/Example.antt: the replies and logs are those given here, the guarantee speaks of this list, and each of its conclusions says something.
 -- Assumes nothing.
 use mathlib.Core.List.{List, [], _∷_, _++_}
-use Prim.Native.Nat.{ℕ}
-use lib.ListN.{replicate}
 use Rattle.fate.specs.declared.Fate.the-variants.{Answered, Cut}
 use Rattle.fate.specs.declared.Left.the-variants.{New}
-use Rattle.storage.specs.Places.{recordBytes}
 use Rattle.cluster.specs.declared.Shape.{Shape}
-use Rattle.cluster.specs.declared.Request.{Request}
-use Rattle.cluster.specs.declared.Call.{Call}
 use Rattle.cluster.specs.declared.Call.the-variants as call
-use Rattle.cluster.specs.Replies.{Reply, ok, no, silent}
-use Rattle.cluster.specs.Effects.{issuedFields}
+use Rattle.cluster.specs.Replies.{Reply, no, silent}
 use Rattle.guarantee.specs.History.{Element, Logged}
+use Rattle.guarantee_example.specs.Elements.{plain, issuing, value, logged}
 
 abbrev pub shape : Shape
-shape = record { replicas = 3; places = 3 }
-
--- A call without data and locks. Where it opens a session replica 2 is read. No fate here reads the given bytes.
-abbrev pub plain : Call → Element
-plain c = record { input = record { call = c; content = []; locks = []; given = replicate {A = ℕ} 64 0 }; reader = 2 }
-
--- an issue by server 0 for a client with this mark
-abbrev pub request : ℕ → Request
-request mark = record { mark = mark; client = 0; generation = 0; partition = 0; sequence = 0; header = 9 }
-
-abbrev pub issuing : ℕ → List ℕ → List ℕ → Element
-issuing mark locks content =
-    record { input = record { call = call.Issue 0 (request mark); content = content; locks = locks; given = [] }; reader = 0 }
+shape = record { replicas = 3; places = 3; interval = 3 }
 
 -- ================ the calls
 
@@ -87,9 +70,6 @@ calls = calls-1 ++ (calls-2 ++ (calls-3 ++ (calls-4 ++ calls-5)))
 
 -- ================ what they come to
 
-abbrev value : ℕ → Reply
-value n = ok (n ∷ [])
-
 abbrev pub replies-1 : List Reply
 replies-1 = value 1 ∷ value 0 ∷ value 0 ∷ value 0 ∷ value 0 ∷ []
 
@@ -105,11 +85,7 @@ replies-4 = value 2 ∷ value 3 ∷ value 2 ∷ no 8 [] ∷ []
 abbrev pub replies-5 : List Reply
 replies-5 = value 3 ∷ value 3 ∷ value 3 ∷ []
 
--- what both logs have under IDs 1 to 3; the records were issued by the calls of these numbers, counted from 0
-abbrev logged : ℕ → ℕ → ℕ → List ℕ → List ℕ → Logged
-logged id call mark locks content =
-    record { bytes = recordBytes (issuedFields id (request mark)) content; transaction = record { call = call; locks = locks; mark = mark } }
-
+-- what both logs have under IDs 1 to 3
 abbrev pub first : Logged
 first = logged 1 5 0 [] (0xAB ∷ [])
 

@@ -1,1 +1,3 @@
+pub mod Elements
 pub mod Example
+pub mod Checkpoint

@@ -1,0 +1,53 @@
+-- The arguments of the lists' calls fit.
+-- Assumes nothing.
+use mathlib.Core.Path.{_≡_, refl, sym}
+use mathlib.Core.Bool.{true≢false}
+use mathlib.Core.List.{List, [], _∷_, _++_}
+use Prim.Native.Nat.{ℕ}
+use native.Mathlib.Omega.{arith}
+use lib.Dec.{lit<}
+use Rattle.octets.specs.Octets.{Bytes}
+use Rattle.fate.specs.declared.Fate.{Fate}
+use Rattle.fate.specs.declared.Fate.the-variants.{Answered}
+use Rattle.cluster.specs.declared.Request.{Request}
+use Rattle.cluster.specs.declared.Call.{Call}
+use Rattle.cluster.specs.declared.Call.the-variants as call
+use Rattle.guarantee.specs.History.{Element}
+use Rattle.guarantee.specs.Guarantee.{Fits}
+use Rattle.guarantee_example.specs.Elements.{plain, request, issuing}
+use Rattle.guarantee_example.proofs.Outline.{FitEach}
+
+plain-fits : (c : Call) → ((s : ℕ) (q : Request) → c ≡ call.Issue s q → ⊥) → Fits (plain c .input)
+plain-fits c n = record { given = λ m. refl; content = tt; request = λ s q e. absurd (n s q e) }
+
+pub issuing-fits : (mark : ℕ) (locks content : List ℕ) → Bytes content → Fits (issuing mark locks content .input)
+issuing-fits mark locks content b =
+    record {
+      given = λ m. absurd (true≢false (sym m));
+      content = b;
+      request = λ s q e.
+          let r : request mark ≡ q = cc in
+          rw (← r) (record { client = lit< tt; generation = lit< tt; partition = lit< tt; sequence = lit< tt; header = lit< tt });
+    }
+
+pub take : (s : ℕ) → Fits (plain (call.Take s Answered) .input)
+take s = plain-fits (call.Take s Answered) (λ t q e. let z : _≡_ {A = ℕ} 0 1 = cc in omega arith)
+
+pub prepare : (s i : ℕ) → Fits (plain (call.Prepare s i Answered) .input)
+prepare s i = plain-fits (call.Prepare s i Answered) (λ t q e. let z : _≡_ {A = ℕ} 0 1 = cc in omega arith)
+
+pub opens : (s : ℕ) → Fits (plain (call.Open s Answered) .input)
+opens s = plain-fits (call.Open s Answered) (λ t q e. let z : _≡_ {A = ℕ} 0 1 = cc in omega arith)
+
+pub send : (i : ℕ) (f : Fate) → Fits (plain (call.Send 0 i f) .input)
+send i f = plain-fits (call.Send 0 i f) (λ t q e. let z : _≡_ {A = ℕ} 0 1 = cc in omega arith)
+
+pub copy : (s a b : ℕ) → Fits (plain (call.Copy s a b Answered) .input)
+copy s a b = plain-fits (call.Copy s a b Answered) (λ t q e. let z : _≡_ {A = ℕ} 0 1 = cc in omega arith)
+
+pub stop : (s : ℕ) → Fits (plain (call.Stop s) .input)
+stop s = plain-fits (call.Stop s) (λ t q e. let z : _≡_ {A = ℕ} 0 1 = cc in omega arith)
+
+pub fit-then : (es fs : List Element) → FitEach es → FitEach fs → FitEach (es ++ fs)
+fit-then [] fs a b = b
+fit-then (e ∷ es) fs a b = (a .0, fit-then es fs (a .1) b)

@@ -1,0 +1,32 @@
+-- What the example lists are made of: calls, requests and replies.
+-- Assumes nothing.
+use mathlib.Core.List.{List, [], _∷_}
+use Prim.Native.Nat.{ℕ}
+use lib.ListN.{replicate}
+use Rattle.storage.specs.Places.{recordBytes}
+use Rattle.cluster.specs.declared.Request.{Request}
+use Rattle.cluster.specs.declared.Call.{Call}
+use Rattle.cluster.specs.declared.Call.the-variants as call
+use Rattle.cluster.specs.Replies.{Reply, ok}
+use Rattle.cluster.specs.Effects.{issuedFields}
+use Rattle.guarantee.specs.History.{Element, Logged}
+
+-- A call without data and locks. Where it opens a session replica 2 is read. No fate here reads the given bytes.
+abbrev pub plain : Call → Element
+plain c = record { input = record { call = c; content = []; locks = []; given = replicate {A = ℕ} 64 0 }; reader = 2 }
+
+-- an issue by server 0 for a client with this mark
+abbrev pub request : ℕ → Request
+request mark = record { mark = mark; client = 0; generation = 0; partition = 0; sequence = 0; header = 9 }
+
+abbrev pub issuing : ℕ → List ℕ → List ℕ → Element
+issuing mark locks content =
+    record { input = record { call = call.Issue 0 (request mark); content = content; locks = locks; given = [] }; reader = 0 }
+
+abbrev pub value : ℕ → Reply
+value n = ok (n ∷ [])
+
+-- what a log has under an ID: the record was issued by the call of this number, counted from 0
+abbrev pub logged : ℕ → ℕ → ℕ → List ℕ → List ℕ → Logged
+logged id call mark locks content =
+    record { bytes = recordBytes (issuedFields id (request mark)) content; transaction = record { call = call; locks = locks; mark = mark } }

@@ -33,9 +33,9 @@
 //! fits no form prints bad.
 
 mod counts;
-mod recorder;
 mod list;
 mod random_states;
+mod recorder;
 mod scenes;
 mod state_lines;
 mod sums;

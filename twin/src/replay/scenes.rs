@@ -103,7 +103,12 @@ fn with_two_faults(recorder: &mut Recorder, random: &mut Random, scene: &Scene) 
 }
 
 /// A truncation cut at each write and behind the last.
-fn cut_each(recorder: &mut Recorder, random: &mut Random, scene: &Scene, writes: RangeInclusive<u64>) {
+fn cut_each(
+    recorder: &mut Recorder,
+    random: &mut Random,
+    scene: &Scene,
+    writes: RangeInclusive<u64>,
+) {
     for fate in cuts(writes) {
         let given = random.bytes(PLACE_BYTES).try_into().expect("64 bytes");
         truncation(recorder, scene, Message { fate, given });

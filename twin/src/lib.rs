@@ -1,5 +1,5 @@
-//! The quorum journal of document 01 once more, in Rust: the other implementation that the proved
-//! one is compared with. Lowest layer first.
+//! The quorum journal of documents 01 and 02 once more, in Rust: the other implementation that the
+//! proved one is compared with. Lowest layer first.
 
 pub mod crc;
 pub mod hex;

@@ -36,7 +36,7 @@ fn g_and_h_lock_places() {
 /// An open server whose lock entries are all `entry`, asked for one lock by a client at
 /// `client_mark`.
 fn ask(entry: u64, client_mark: u64) -> Result<Answer, Refusal> {
-    let mut cluster = Cluster::fresh(Shape { replicas: 1, places: 10 }).expect("a shape");
+    let mut cluster = Cluster::fresh(Shape::whole(1, 10)).expect("a shape");
     cluster.locks.fill(entry);
     let server = &mut cluster.records.servers[0];
     server.phase = Phase::Open;

@@ -19,7 +19,7 @@ pub enum Answer {
 /// Why a call is declined, in the order in which the reasons are checked.
 #[derive(Clone, Copy, Debug, PartialEq, Eq)]
 pub enum Refusal {
-    /// R, N or the length of a lent slice.
+    /// R, N, K or the length of a lent slice.
     OutsideShape,
     MarkAbovePlaces,
     NoSuchServer,

@@ -7,16 +7,25 @@ use crate::votes::{quorum, MOST_REPLICAS};
 pub const SERVERS: usize = 4;
 pub const MOST_PLACES: u64 = 1000;
 
-/// R and N.
+/// R, N and K, which each call gets.
 #[derive(Clone, Copy, Debug, PartialEq, Eq)]
 pub struct Shape {
     pub replicas: u64,
     pub places: u64,
+    /// The checkpoint interval of document 02, No. 1: how many records a session may issue.
+    pub interval: u64,
 }
 
 impl Shape {
+    /// With K = N: one session may fill the log.
+    pub fn whole(replicas: u64, places: u64) -> Shape {
+        Shape { replicas, places, interval: places }
+    }
+
     pub fn is_allowed(&self) -> bool {
-        matches!(self.replicas, 1 | 3 | 5 | 7) && (1..=MOST_PLACES).contains(&self.places)
+        matches!(self.replicas, 1 | 3 | 5 | 7)
+            && (1..=MOST_PLACES).contains(&self.places)
+            && (1..=self.places).contains(&self.interval)
     }
 
     /// Bytes of one replica's medium.

@@ -1,4 +1,5 @@
-//! The cluster that the jobs work on: seven replicas of 1,000 places, driven by the eleven calls.
+//! The cluster that the jobs work on: seven replicas of 1,000 places, which one session may fill,
+//! driven by the eleven calls.
 
 use crate::cluster::{Answer, Call, Cluster, Message, Request, Shape};
 use crate::fate::Fate;
@@ -7,7 +8,7 @@ const REPLICAS: u64 = 7;
 const PLACES: u64 = 1000;
 
 pub fn fresh() -> Cluster {
-    Cluster::fresh(Shape { replicas: REPLICAS, places: PLACES }).expect("an allowed shape")
+    Cluster::fresh(Shape::whole(REPLICAS, PLACES)).expect("an allowed shape")
 }
 
 pub fn message() -> Message {

@@ -31,7 +31,7 @@ pub fn replay(random: &mut Random) -> Run {
     bad_lines(&mut recorder);
     scenes::replay(&mut recorder, random);
     for (replicas, places) in (0..LISTS).flat_map(|_| SHAPES) {
-        list(&mut recorder, random, Shape { replicas, places });
+        list(&mut recorder, random, Shape::whole(replicas, places));
     }
     random_states::replay(&mut recorder, random);
     recorder.finish()

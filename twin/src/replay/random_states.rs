@@ -39,7 +39,7 @@ fn calls_on_state(recorder: &mut Recorder, random: &mut Random, places: u64) {
 
 /// Makes a server and most replicas agree on session and marks, so that its messages are accepted.
 fn agree(random: &mut Random, cluster: &mut Cluster) {
-    let Shape { replicas, places } = cluster.shape;
+    let Shape { replicas, places, .. } = cluster.shape;
     let fitting = replicas as usize * medium::medium_bytes(places as usize);
     if !cluster.shape.is_allowed() || cluster.media.len() != fitting {
         return;

@@ -28,7 +28,7 @@ pub struct Recorder {
 
 impl Recorder {
     pub fn new() -> Recorder {
-        let shape = Shape { replicas: 0, places: 0 };
+        let shape = Shape { replicas: 0, places: 0, interval: 0 };
         let records = Records::default();
         Recorder {
             cluster: Cluster { shape, records, media: Vec::new(), locks: Vec::new() },

@@ -19,7 +19,8 @@ pub fn parse(line: &[u8]) -> Option<Form> {
     }
     let mut fields = Fields(line.split(|&byte| byte == b'\t'));
     let form = match fields.next()? {
-        b"cluster" => Form::Cluster(Shape { replicas: fields.number()?, places: fields.number()? }),
+        // The line names R and N; the script uses K = N.
+        b"cluster" => Form::Cluster(Shape::whole(fields.number()?, fields.number()?)),
         word => Form::Call(fields.call(word)?),
     };
     fields.end()?;

@@ -127,8 +127,7 @@ pub fn record_bytes(id: u64) -> PlaceBytes {
 
 /// Replicas with these marks and the promise `SESSION`, all known to the server or its members.
 fn cluster(phase: Phase, marks: [u64; 3]) -> Cluster {
-    let shape = Shape { replicas: 3, places: PLACES };
-    let mut cluster = Cluster::fresh(shape).expect("an allowed shape");
+    let mut cluster = Cluster::fresh(Shape::whole(3, PLACES)).expect("an allowed shape");
     cluster.records.register.session = SESSION;
     for (replica, mark) in marks.into_iter().enumerate() {
         let medium = cluster.medium_mut(replica);

@@ -18,7 +18,7 @@ pub struct Draw<'a> {
 impl Draw<'_> {
     pub fn cluster(&mut self) -> Cluster {
         let replicas = *self.random.pick(&[1, 3, 3, 3, 5, 7]);
-        let shape = Shape { replicas, places: self.places };
+        let shape = Shape::whole(replicas, self.places);
         let media = (0..replicas).flat_map(|_| self.medium()).collect();
         let locks = vec![self.random.below(3); SERVERS * TABLE_MARKS];
         let mut cluster = Cluster { shape, records: Default::default(), media, locks };

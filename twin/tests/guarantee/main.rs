@@ -42,7 +42,7 @@ fn run_list(random: &mut Random, met: &mut Met) {
     let replicas = *random.pick(&[1, 3, 3, 3, 5, 7]);
     let most_places = *random.pick(&[3, 6, 12]);
     let places = 1 + random.below(most_places);
-    let mut cluster = Cluster::fresh(Shape { replicas, places }).expect("an allowed shape");
+    let mut cluster = Cluster::fresh(Shape::whole(replicas, places)).expect("an allowed shape");
     let mut history = History::new(replicas as usize, places as usize);
     let caller = Caller::new(random);
     for _ in 0..CALLS {

@@ -6,8 +6,8 @@
 //!
 //! | command | fields | what becomes of the state |
 //! |---|---|---|
-//! | fresh | R, N | a fresh cluster, its media and lock tables lent at their lengths |
-//! | shape | R, N | the two numbers that the calls get |
+//! | fresh | R, N, K | a fresh cluster, its media and lock tables lent at their lengths |
+//! | shape | R, N, K | the three numbers that the calls get |
 //! | lend | bytes, marks | the lengths at which media and lock tables are lent |
 //! | media | offset, BYTES | these bytes of the media |
 //! | table | index, count, mark | so many marks of the lock tables |
@@ -20,6 +20,9 @@
 //! | given | 64 BYTES | what a torn write leaves |
 //! | data | BYTES | of the requests that follow |
 //! | locks | each of up to 8 | of the requests that follow |
+//!
+//! Before anything is handed in, all is 0. A fresh line's R is at most 7 and its N at most 14; its K
+//! may be any, and so may all three of a shape line.
 //!
 //! ENTRY stands for three fields: session; 0 if unresolved, else 1; the closing mark. The calls are
 //! take, prepare, copy, trim, open, issue, send, note, read, stop and reassign with their numbers
@@ -44,7 +47,7 @@ mod useful;
 
 use crate::random::Random;
 
-pub use counts::{Counts, CALLS, FATES};
+pub use counts::{Counts, CALLS, FATES, INTERVALS};
 
 /// The stored run: its lines, what they print, and what it meets.
 pub struct Run {

@@ -1,5 +1,5 @@
 //! The stored run of the replay program is what this implementation gives, and it meets every call,
-//! refusal and fate.
+//! refusal, fate and kind of interval.
 
 mod stored;
 
@@ -74,6 +74,17 @@ fn messages_are_cut_at_the_first_and_at_later_writes() {
     let counts = replay::run().counts;
     for fate in &FATES[3..] {
         assert!((1..=6).all(|write| counts.writes(fate).contains(&write)), "{fate}");
+    }
+}
+
+/// Where nothing else that refusal 1 speaks of is outside, so that K alone decides about it.
+#[test]
+fn every_call_gets_an_interval_of_0_n_and_above() {
+    let counts = replay::run().counts;
+    for call in CALLS {
+        for interval in ["0", "N", "N + 1", "above"] {
+            assert!(counts.interval(call, interval) > 0, "{call}, K {interval}");
+        }
     }
 }
 

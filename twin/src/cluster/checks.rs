@@ -14,7 +14,9 @@ impl Cluster {
         Refusal::MarkAbovePlaces.when(self.marks().any(|mark| mark > self.shape.places))
     }
 
-    fn has_exact_lengths(&self) -> bool {
+    /// Whether the lent slices have the lengths that R and N ask for; both must be within their
+    /// values.
+    pub fn has_exact_lengths(&self) -> bool {
         self.media.len() == self.replicas() * self.shape.medium_bytes()
             && self.locks.len() == SERVERS * TABLE_MARKS
     }

@@ -1,10 +1,10 @@
-//! What a run meets: replies of each call, and fates.
+//! What a run meets: replies of each call, fates, and intervals.
 
 use std::collections::BTreeMap;
 use std::fmt;
 
 use super::texts::word;
-use crate::cluster::{Answer, Call, Reply, ORDER};
+use crate::cluster::{Answer, Call, Cluster, Reply, Shape, ORDER};
 use crate::fate::{Fate, Left};
 
 pub const CALLS: [&str; 11] = [
@@ -13,6 +13,9 @@ pub const CALLS: [&str; 11] = [
 
 pub const FATES: [&str; 6] = ["answered", "lost", "answer lost", "cut old", "cut new", "cut torn"];
 
+/// What K can be beside N; "1" and "between" are below N.
+pub const INTERVALS: [&str; 6] = ["0", "1", "between", "N", "N + 1", "above"];
+
 #[derive(Default)]
 pub struct Counts {
     /// By call and reply: 0 for ok, the number of a refusal.
@@ -20,10 +23,13 @@ pub struct Counts {
     silent: BTreeMap<&'static str, u64>,
     /// By call, fate and write (0 unless cut), of calls that are not declined.
     fates: BTreeMap<(&'static str, &'static str, u64), u64>,
+    /// By call and K, where K alone decides about refusal 1.
+    intervals: BTreeMap<(&'static str, &'static str), u64>,
 }
 
 impl Counts {
-    pub(super) fn add(&mut self, call: &Call, reply: &Reply) {
+    /// Adds a call on this cluster, of which only shape and lengths are read.
+    pub(super) fn add(&mut self, cluster: &Cluster, call: &Call, reply: &Reply) {
         let word = word(call);
         match reply {
             Ok(Answer::Silent) => *self.silent.entry(word).or_default() += 1,
@@ -33,6 +39,9 @@ impl Counts {
         if let (Some(fate), Ok(_)) = (fate_of(call), reply) {
             let (name, write) = fate_name(fate);
             *self.fates.entry((word, name, write)).or_default() += 1;
+        }
+        if let Some(name) = interval_name(cluster) {
+            *self.intervals.entry((word, name)).or_default() += 1;
         }
     }
 
@@ -67,6 +76,12 @@ impl Counts {
         writes
     }
 
+    /// How often the call got such a K, with nothing else that refusal 1 speaks of outside.
+    pub fn interval(&self, call: &str, interval: &str) -> u64 {
+        let counted = self.intervals.iter().filter(|(key, _)| **key == (call, interval));
+        counted.map(|(_, count)| count).sum()
+    }
+
     pub fn calls(&self) -> u64 {
         self.replies.values().chain(self.silent.values()).sum()
     }
@@ -96,7 +111,23 @@ fn fate_name(fate: Fate) -> (&'static str, u64) {
     }
 }
 
-/// A table of replies by call, one of fates by call, and the writes that were cut.
+/// `None` if R, N or a lent length is outside its values, whatever K is.
+fn interval_name(cluster: &Cluster) -> Option<&'static str> {
+    let Shape { replicas, places, interval } = cluster.shape;
+    if !Shape::whole(replicas, places).is_allowed() || !cluster.has_exact_lengths() {
+        return None;
+    }
+    Some(match interval {
+        0 => "0",
+        _ if interval == places => "N",
+        _ if interval == places + 1 => "N + 1",
+        _ if interval > places => "above",
+        1 => "1",
+        _ => "between",
+    })
+}
+
+/// A table of replies by call, one of fates and one of K by call, and the writes that were cut.
 impl fmt::Display for Counts {
     fn fmt(&self, f: &mut fmt::Formatter<'_>) -> fmt::Result {
         write!(f, "{:9}{:>6}{:>7}", "call", "ok", "silent")?;
@@ -105,6 +136,10 @@ impl fmt::Display for Counts {
         write!(f, "\n\n{:9}", "call")?;
         FATES.iter().try_for_each(|fate| write!(f, "{fate:>12}"))?;
         CALLS.iter().try_for_each(|call| self.write_fates(f, call))?;
+        write!(f, "\n\n{:9}", "K")?;
+        INTERVALS.iter().try_for_each(|interval| write!(f, "{interval:>12}"))?;
+        CALLS.iter().try_for_each(|call| self.write_intervals(f, call))?;
+        writeln!(f)?;
         let cuts = &mut FATES[3..].iter();
         cuts.try_for_each(|fate| write!(f, "\n{fate} at writes {:?}", self.writes(fate)))?;
         write!(f, "\n{} calls\n", self.calls())
@@ -120,5 +155,10 @@ impl Counts {
     fn write_fates(&self, f: &mut fmt::Formatter<'_>, call: &str) -> fmt::Result {
         write!(f, "\n{call:9}")?;
         FATES.iter().try_for_each(|fate| write!(f, "{:>12}", self.fate(call, fate)))
+    }
+
+    fn write_intervals(&self, f: &mut fmt::Formatter<'_>, call: &str) -> fmt::Result {
+        write!(f, "\n{call:9}")?;
+        INTERVALS.iter().try_for_each(|name| write!(f, "{:>12}", self.interval(call, name)))
     }
 }

@@ -2,7 +2,8 @@
 
 use super::recorder::Recorder;
 use super::{random_states, scenes, useful, Run};
-use crate::cluster::{Call, Shape};
+use crate::cluster::{Call, Cluster, Shape};
+use crate::fate::Fate;
 use crate::random::Random;
 use crate::tries::caller::Caller;
 
@@ -29,6 +30,7 @@ const CALLS: u64 = 100;
 pub fn replay(random: &mut Random) -> Run {
     let mut recorder = Recorder::new();
     bad_lines(&mut recorder);
+    any_interval(&mut recorder);
     scenes::replay(&mut recorder, random);
     for (replicas, places) in (0..LISTS).flat_map(|_| SHAPES) {
         list(&mut recorder, random, Shape::whole(replicas, places));
@@ -53,9 +55,27 @@ fn bad_lines(recorder: &mut Recorder) {
         "given\t00",
         "data\tA",
         "lend\t7169\t4096",
+        "fresh\t3\t4",
+        "fresh\t3\t4\t4\t4",
+        "shape\t3\t4",
+        "shape\t3\t4\t4\t4",
+        "shape\t3\t4\t18446744073709551616",
         "Stop\t0",
     ];
     lines.iter().for_each(|line| recorder.bad(line));
+}
+
+/// Fresh clusters with a K that the calls decline, until another is handed in.
+fn any_interval(recorder: &mut Recorder) {
+    let take = Call::Take { server: 0, fate: Fate::Answered };
+    for interval in [0, 5, u64::MAX] {
+        let (replicas, places) = (3, 4);
+        recorder.fresh(Shape { replicas, places, interval });
+        recorder.call(&take).expect_err("K is outside 1 to N");
+        let shape = Shape::whole(replicas, places);
+        recorder.hand_in(Cluster { shape, ..recorder.cluster().clone() });
+        recorder.call(&take).expect("K fits");
+    }
 }
 
 /// Calls that get somewhere, from a fresh cluster.

@@ -39,11 +39,10 @@ fn calls_on_state(recorder: &mut Recorder, random: &mut Random, places: u64) {
 
 /// Makes a server and most replicas agree on session and marks, so that its messages are accepted.
 fn agree(random: &mut Random, cluster: &mut Cluster) {
-    let Shape { replicas, places, .. } = cluster.shape;
-    let fitting = replicas as usize * medium::medium_bytes(places as usize);
-    if !cluster.shape.is_allowed() || cluster.media.len() != fitting {
+    if !cluster.shape.is_allowed() || !cluster.has_exact_lengths() {
         return;
     }
+    let Shape { replicas, places, .. } = cluster.shape;
     let mut server = cluster.records.servers[SERVER];
     for replica in (0..replicas as usize).filter(|_| !random.chance(5)) {
         let medium = cluster.medium(replica);

@@ -1,6 +1,6 @@
 //! Writes the lines of a run and what they print, and makes its calls.
 
-use super::state_lines::{media_lines, record_lines, table_lines};
+use super::state_lines::{media_lines, record_lines, shape_line, table_lines};
 use super::sums::sums;
 use super::texts::{call_line, line, reply_text};
 use super::{Counts, Run};
@@ -61,9 +61,12 @@ impl Recorder {
         self.run.output += "bad\n";
     }
 
+    /// A fresh cluster with any K: it is the calls that judge it.
     pub fn fresh(&mut self, shape: Shape) {
-        self.line(&line("fresh", &[shape.replicas, shape.places]));
-        self.cluster = Cluster::fresh(shape).expect("an allowed shape");
+        self.line(&shape_line("fresh", shape));
+        let whole = Shape::whole(shape.replicas, shape.places);
+        let cluster = Cluster::fresh(whole).expect("R and N fit");
+        self.cluster = Cluster { shape, ..cluster };
         self.keep_slices();
     }
 
@@ -72,7 +75,7 @@ impl Recorder {
         let held = &self.cluster;
         let mut lines = record_lines(&held.records, &wanted.records);
         if held.shape != wanted.shape {
-            lines.push(line("shape", &[wanted.shape.replicas, wanted.shape.places]));
+            lines.push(shape_line("shape", wanted.shape));
         }
         let lengths = |cluster: &Cluster| [cluster.media.len() as u64, cluster.locks.len() as u64];
         if lengths(held) != lengths(&wanted) {
@@ -94,7 +97,7 @@ impl Recorder {
         let [records, media, tables] = sums(&self.cluster);
         let text = reply_text(&reply);
         self.run.output += &format!("{text}\t{records:08X}\t{media:08X}\t{tables:08X}\n");
-        self.run.counts.add(&call, &reply);
+        self.run.counts.add(&self.cluster, &call, &reply);
         reply
     }
 

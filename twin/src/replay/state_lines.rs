@@ -2,9 +2,15 @@
 
 use super::sums::{entry_numbers, server_numbers, standing_number};
 use super::texts::line;
-use crate::cluster::{Entry, Records, Server};
+use crate::cluster::{Entry, Records, Server, Shape};
 use crate::hex;
 use crate::medium::PLACE_BYTES;
+
+/// R, N and K behind a word.
+pub fn shape_line(word: &str, shape: Shape) -> String {
+    let Shape { replicas, places, interval } = shape;
+    line(word, &[replicas, places, interval])
+}
 
 /// Register and servers.
 pub fn record_lines(old: &Records, new: &Records) -> Vec<String> {

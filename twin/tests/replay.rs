@@ -10,7 +10,7 @@ use twin::replay::{self, CALLS, FATES};
 const LOCAL: [&str; 3] = ["issue", "stop", "reassign"];
 const TO_REGISTER: [&str; 2] = ["take", "open"];
 
-/// The calls that document 01's list can decline with each number.
+/// The calls that the list of documents 01 and 02 can decline with each number.
 const DECLINED: [(u64, &[&str]); ORDER.len()] = [
     (1, &CALLS),
     (2, &CALLS),
@@ -26,6 +26,7 @@ const DECLINED: [(u64, &[&str]); ORDER.len()] = [
     (12, &["issue"]),
     (13, &["issue"]),
     (14, &["issue"]),
+    (23, &["issue"]),
     (15, &["issue"]),
     (16, &["copy", "trim", "send", "read"]),
     (17, &["copy"]),

@@ -1,5 +1,4 @@
-//! Reasons to decline that several calls share. Each call lists its own in the order of their
-//! numbers.
+//! Reasons to decline that several calls share. Each call lists its own in the order of the list.
 
 use super::{Cluster, Entry, Message, Phase, Refusal, Standing, SERVERS};
 use crate::fate::{Fate, Left};

@@ -30,7 +30,7 @@ impl Cluster {
         Ok(Answer::Number(id))
     }
 
-    /// 10 to 15. All locks are judged on the table as it is before any is written.
+    /// 10 to 14, 23 and 15. All locks are judged on the table as it is before any is written.
     fn check_request(&self, server: usize, request: &Request) -> Result<(), Refusal> {
         let record = &self.records.servers[server];
         Refusal::OtherGeneration.when(request.generation != record.generation)?;
@@ -39,9 +39,18 @@ impl Cluster {
         Refusal::TooMuch.when(too_much)?;
         Refusal::Unacknowledged.when(record.acknowledged < record.issued)?;
         Refusal::Full.when(record.issued == self.shape.places)?;
+        Refusal::CheckpointDue.when(self.is_checkpoint_due(server))?;
         match first_conflict(self.table(server), &request.locks, request.client_mark) {
             Some((lock, estimate)) => Err(Refusal::Locked { lock, estimate }),
             None => Ok(()),
         }
+    }
+
+    /// Whether issued less the starting mark is K or more. With issued below the starting mark, as
+    /// may be handed in, it is not.
+    pub fn is_checkpoint_due(&self, server: usize) -> bool {
+        let record = &self.records.servers[server];
+        let since_start = record.issued.checked_sub(record.starting);
+        since_start.is_some_and(|count| count >= self.shape.interval)
     }
 }

@@ -38,6 +38,8 @@ pub enum Refusal {
     TooMuch,
     Unacknowledged,
     Full,
+    /// The session has issued as many records as the interval allows.
+    CheckpointDue,
     /// The first lock whose estimate is not below the client's mark.
     Locked {
         lock: u64,
@@ -55,14 +57,14 @@ pub enum Refusal {
 }
 
 /// The numbers of the list, in the order in which they are checked.
-pub const ORDER: [u64; 22] =
-    [1, 2, 3, 4, 5, 6, 7, 8, 9, 10, 11, 12, 13, 14, 15, 16, 17, 18, 19, 20, 21, 22];
+pub const ORDER: [u64; 23] =
+    [1, 2, 3, 4, 5, 6, 7, 8, 9, 10, 11, 12, 13, 14, 23, 15, 16, 17, 18, 19, 20, 21, 22];
 
 /// Those that the receiver of a message gives: seen only if the message is answered.
 pub const BY_RECEIVER: [u64; 5] = [18, 19, 20, 21, 22];
 
 impl Refusal {
-    /// Document 01's number.
+    /// Its number in document 01's list, which document 02 goes on with from 23.
     pub fn number(&self) -> u64 {
         match self {
             Refusal::OutsideShape => 1,
@@ -79,6 +81,7 @@ impl Refusal {
             Refusal::TooMuch => 12,
             Refusal::Unacknowledged => 13,
             Refusal::Full => 14,
+            Refusal::CheckpointDue => 23,
             Refusal::Locked { .. } => 15,
             Refusal::NothingToDo => 16,
             Refusal::UnfitSource => 17,

@@ -192,8 +192,21 @@ fn requests() -> Vec<Fault> {
             let server = &mut scene.cluster.records.servers[SERVER];
             (server.issued, server.acknowledged) = (PLACES, PLACES);
         }),
+        fault(23, "one issued, K = 1", &[Issue], |scene| checkpoint(scene, 4, 5, 1)),
+        fault(23, "K issued", &[Issue], |scene| checkpoint(scene, 2, 5, 3)),
+        fault(23, "many more than K issued", &[Issue], |scene| checkpoint(scene, 0, 5, 2)),
+        fault(23, "all but one place issued, K = N - 1", &[Issue], |scene| {
+            checkpoint(scene, 0, PLACES - 1, PLACES - 1)
+        }),
         fault(15, "all locks at the client's mark", &[Issue], |scene| scene.cluster.locks.fill(3)),
     ]
+}
+
+/// Everything that 23 depends on; what is issued is acknowledged.
+fn checkpoint(scene: &mut Scene, starting: u64, issued: u64, interval: u64) {
+    scene.cluster.shape.interval = interval;
+    let server = &mut scene.cluster.records.servers[SERVER];
+    (server.starting, server.issued, server.acknowledged) = (starting, issued, issued);
 }
 
 fn work() -> Vec<Fault> {

@@ -18,7 +18,8 @@ pub struct Draw<'a> {
 impl Draw<'_> {
     pub fn cluster(&mut self) -> Cluster {
         let replicas = *self.random.pick(&[1, 3, 3, 3, 5, 7]);
-        let shape = Shape::whole(replicas, self.places);
+        let interval = 1 + self.random.below(self.places);
+        let shape = Shape { replicas, places: self.places, interval };
         let media = (0..replicas).flat_map(|_| self.medium()).collect();
         let locks = vec![self.random.below(3); SERVERS * TABLE_MARKS];
         let mut cluster = Cluster { shape, records: Default::default(), media, locks };
@@ -31,6 +32,8 @@ impl Draw<'_> {
             0 => cluster.shape.replicas = 2,
             1 => cluster.shape.places = 0,
             2 => cluster.media.push(0),
+            3 => cluster.shape.interval = 0,
+            4 => cluster.shape.interval = self.places + 1,
             _ => {}
         }
         cluster

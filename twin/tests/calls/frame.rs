@@ -1,7 +1,7 @@
 //! Random states and calls: what a call does not name it leaves alone, and only answered calls
 //! answer.
 
-use twin::cluster::{Answer, Call, Cluster, SERVERS};
+use twin::cluster::{Answer, Call, Cluster, ORDER, SERVERS};
 use twin::fate::Fate;
 use twin::random::Random;
 use twin::tries::states::Draw;
@@ -51,7 +51,7 @@ fn assert_rest_unchanged(before: &Cluster, call: &Call, after: &Cluster) {
 #[test]
 fn calls_leave_alone_what_they_do_not_name() {
     let mut random = Random::new(9);
-    let mut refusals = [0; 23];
+    let mut refusals = [0; ORDER.len() + 1];
     for _ in 0..CALLS {
         let places = 1 + random.below(4);
         let mut draw = Draw { random: &mut random, places };

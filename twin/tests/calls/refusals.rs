@@ -1,11 +1,11 @@
 //! Why a call is declined: for each call, every fault that it can meet, alone and with any others.
-//! The reply is the lowest number among the faults, and nothing changes.
+//! The reply is the number among the faults that is checked first, and nothing changes.
 
-use twin::cluster::{Answer, Message};
+use twin::cluster::{Answer, Message, ORDER};
 use twin::fate::{Fate, Left};
 use twin::random::Random;
 use twin::tries::faults::{faults_of, with_faults, Fault};
-use twin::tries::scene::{all_scenes, Kind, Scene};
+use twin::tries::scene::{all_scenes, Kind, Scene, PLACES, SERVER};
 
 /// The number that the scene's call is declined with; a declined call changes nothing.
 fn declined(scene: &Scene) -> Option<u64> {
@@ -24,30 +24,60 @@ fn without_a_fault_no_call_is_declined() {
 
 #[test]
 fn each_fault_alone_gives_its_number() {
-    let mut met = [false; 23];
+    let mut met = Vec::new();
     for scene in all_scenes() {
         for fault in faults_of(&scene) {
             let scene = with_faults(&scene, &[&fault]);
             assert_eq!(declined(&scene), Some(fault.number), "{}: {:?}", fault.name, scene.kind);
-            met[fault.number as usize] = true;
+            met.push(fault.number);
         }
     }
-    assert!(met[1..].iter().all(|&met| met), "{met:?}");
+    assert!(ORDER.iter().all(|number| met.contains(number)), "{met:?}");
 }
 
 #[test]
-fn of_several_faults_the_lowest_number_is_given() {
+fn of_several_faults_the_first_number_of_the_list_is_given() {
     let mut random = Random::new(8);
     for scene in all_scenes() {
         let faults = faults_of(&scene);
         for _ in 0..1_000 {
             let rate = 1 + random.below(8);
             let some: Vec<&Fault> = faults.iter().filter(|_| random.chance(rate)).collect();
-            let lowest = some.iter().map(|fault| fault.number).min();
+            let first = some.iter().min_by_key(|fault| fault.rank()).map(|fault| fault.number);
             let names: Vec<&str> = some.iter().map(|fault| fault.name).collect();
             let scene = with_faults(&scene, &some);
-            assert_eq!(declined(&scene), lowest, "{names:?}: {:?}", scene.kind);
+            assert_eq!(declined(&scene), first, "{names:?}: {:?}", scene.kind);
         }
+    }
+}
+
+/// A scene of issue with one fault of each number.
+fn with_pairs(numbers: [u64; 2]) -> Vec<Scene> {
+    let scenes = all_scenes();
+    let scene = scenes.iter().find(|scene| scene.kind == Kind::Issue).expect("issue's scene");
+    let faults = faults_of(scene);
+    let of = |number: u64| faults.iter().filter(move |fault| fault.number == number);
+    let [first, second] = numbers;
+    of(first).flat_map(|one| of(second).map(|other| with_faults(scene, &[one, other]))).collect()
+}
+
+/// 23 is checked just after 14 and before 15. In each scene both conditions hold: without the first
+/// the second is given.
+#[test]
+fn a_due_checkpoint_is_seen_after_a_full_log_and_before_locks() {
+    let full_and_due = with_pairs([14, 23]);
+    assert_eq!(full_and_due.len(), 4);
+    for mut scene in full_and_due {
+        assert_eq!(declined(&scene), Some(14));
+        scene.cluster.records.servers[SERVER].issued -= 1;
+        assert_eq!(declined(&scene), Some(23));
+    }
+    let due_and_locked = with_pairs([23, 15]);
+    assert_eq!(due_and_locked.len(), 4);
+    for mut scene in due_and_locked {
+        assert_eq!(declined(&scene), Some(23));
+        scene.cluster.shape.interval = PLACES;
+        assert_eq!(declined(&scene), Some(15));
     }
 }
 

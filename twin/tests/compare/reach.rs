@@ -15,7 +15,9 @@ fn scripts() -> impl Iterator<Item = Script> {
 /// cluster, and no call makes one so. Not 6: a line has no fate that cuts. Not 18: a slot write
 /// that is not cut leaves a valid slot. Not 20: a replica that still promises this session was
 /// written by it alone since its prepare, each answer sets the recorded mark to the stored one,
-/// and after silence 7 comes first. Not 21: that takes 2^64 - 1 takes, and reassign has no form.
+/// and after silence 7 comes first. Not 21: that takes 2^64 - 1 takes, and reassign has no form. Not
+/// 23: the script's K is N, so that much is issued beyond a starting mark only if issued = N, and
+/// 14 comes first.
 const MET: [u64; 17] = [1, 3, 4, 5, 7, 8, 9, 10, 11, 12, 13, 14, 15, 16, 17, 19, 22];
 
 #[test]

@@ -4,7 +4,7 @@
 mod history;
 
 use history::History;
-use twin::cluster::{Call, Cluster, Reply, Shape};
+use twin::cluster::{Call, Cluster, Reply, Shape, ORDER};
 use twin::random::Random;
 use twin::tries::caller::{self, Caller};
 
@@ -19,7 +19,7 @@ struct Met {
     acknowledged: u64,
     locked: u64,
     cuts: u64,
-    refusals: [u64; 23],
+    refusals: [u64; ORDER.len() + 1],
 }
 
 impl Met {

@@ -4,7 +4,7 @@
 mod stored;
 
 use twin::cluster::ORDER;
-use twin::replay::{self, CALLS, FATES};
+use twin::replay::{self, CALLS, FATES, INTERVALS};
 
 /// Calls without a message, and those whose message goes to the register.
 const LOCAL: [&str; 3] = ["issue", "stop", "reassign"];
@@ -78,15 +78,24 @@ fn messages_are_cut_at_the_first_and_at_later_writes() {
     }
 }
 
-/// Where nothing else that refusal 1 speaks of is outside, so that K alone decides about it.
+/// Of 0, N and N + 1 among them, where nothing else that refusal 1 speaks of is outside, so that K
+/// alone decides about it.
 #[test]
-fn every_call_gets_an_interval_of_0_n_and_above() {
+fn every_call_gets_every_kind_of_interval() {
     let counts = replay::run().counts;
     for call in CALLS {
-        for interval in ["0", "N", "N + 1", "above"] {
+        for interval in INTERVALS {
             assert!(counts.interval(call, interval) > 0, "{call}, K {interval}");
         }
     }
+}
+
+/// Lists that come to 23 and go on with another session.
+#[test]
+fn sessions_are_opened_after_the_interval_asks_for_one() {
+    let counts = replay::run().counts;
+    assert!(counts.refused("issue", 23) > 50);
+    assert!(counts.forced() > 20);
 }
 
 #[test]

@@ -4,7 +4,7 @@ use std::collections::BTreeMap;
 use std::fmt;
 
 use super::texts::word;
-use crate::cluster::{Answer, Call, Cluster, Reply, Shape, ORDER};
+use crate::cluster::{Answer, Call, Cluster, Refusal, Reply, Shape, ORDER};
 use crate::fate::{Fate, Left};
 
 pub const CALLS: [&str; 11] = [
@@ -25,6 +25,10 @@ pub struct Counts {
     fates: BTreeMap<(&'static str, &'static str, u64), u64>,
     /// By call and K, where K alone decides about refusal 1.
     intervals: BTreeMap<(&'static str, &'static str), u64>,
+    /// Whether issue was declined with 23 since the last state was handed in or session opened.
+    due: bool,
+    /// Sessions opened after that.
+    forced: u64,
 }
 
 impl Counts {
@@ -43,6 +47,23 @@ impl Counts {
         if let Some(name) = interval_name(cluster) {
             *self.intervals.entry((word, name)).or_default() += 1;
         }
+        self.add_change(call, reply);
+    }
+
+    fn add_change(&mut self, call: &Call, reply: &Reply) {
+        match (call, reply) {
+            (_, Err(Refusal::CheckpointDue)) => self.due = true,
+            (Call::Open { .. }, Ok(Answer::Number(_))) => {
+                self.forced += u64::from(self.due);
+                self.due = false;
+            }
+            _ => {}
+        }
+    }
+
+    /// The next call is on another cluster.
+    pub(super) fn add_state(&mut self) {
+        self.due = false;
     }
 
     pub fn ok(&self, call: &str) -> u64 {
@@ -80,6 +101,12 @@ impl Counts {
     pub fn interval(&self, call: &str, interval: &str) -> u64 {
         let counted = self.intervals.iter().filter(|(key, _)| **key == (call, interval));
         counted.map(|(_, count)| count).sum()
+    }
+
+    /// How many sessions were opened on a cluster where issue had been declined with 23 since the
+    /// one before.
+    pub fn forced(&self) -> u64 {
+        self.forced
     }
 
     pub fn calls(&self) -> u64 {
@@ -142,6 +169,7 @@ impl fmt::Display for Counts {
         writeln!(f)?;
         let cuts = &mut FATES[3..].iter();
         cuts.try_for_each(|fate| write!(f, "\n{fate} at writes {:?}", self.writes(fate)))?;
+        write!(f, "\n{} sessions opened after number 23", self.forced())?;
         write!(f, "\n{} calls\n", self.calls())
     }
 }

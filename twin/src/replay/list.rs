@@ -7,33 +7,33 @@ use crate::fate::Fate;
 use crate::random::Random;
 use crate::tries::caller::Caller;
 
-/// R and N of the fresh clusters.
-const SHAPES: [(u64, u64); 12] = [
-    (1, 3),
-    (3, 1),
-    (3, 4),
-    (5, 2),
-    (3, 14),
-    (7, 3),
-    (5, 6),
-    (7, 8),
-    (3, 8),
-    (5, 12),
-    (7, 14),
-    (1, 14),
+/// R, N and K of the fresh clusters.
+const SHAPES: [(u64, u64, u64); 12] = [
+    (1, 3, 2),
+    (3, 1, 1),
+    (3, 4, 2),
+    (5, 2, 1),
+    (3, 14, 1),
+    (7, 3, 3),
+    (5, 6, 2),
+    (7, 8, 1),
+    (3, 8, 8),
+    (5, 12, 2),
+    (7, 14, 3),
+    (1, 14, 1),
 ];
 
 /// Lists of calls from a fresh cluster of each shape, and calls of each list.
 const LISTS: u64 = 3;
-const CALLS: u64 = 100;
+const CALLS: u64 = 110;
 
 pub fn replay(random: &mut Random) -> Run {
     let mut recorder = Recorder::new();
     bad_lines(&mut recorder);
     any_interval(&mut recorder);
     scenes::replay(&mut recorder, random);
-    for (replicas, places) in (0..LISTS).flat_map(|_| SHAPES) {
-        list(&mut recorder, random, Shape::whole(replicas, places));
+    for (replicas, places, interval) in (0..LISTS).flat_map(|_| SHAPES) {
+        list(&mut recorder, random, Shape { replicas, places, interval });
     }
     random_states::replay(&mut recorder, random);
     recorder.finish()

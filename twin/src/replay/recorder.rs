@@ -68,6 +68,7 @@ impl Recorder {
         let cluster = Cluster::fresh(whole).expect("R and N fit");
         self.cluster = Cluster { shape, ..cluster };
         self.keep_slices();
+        self.run.counts.add_state();
     }
 
     /// Hands in a state, as far as it differs from the one held.
@@ -86,6 +87,7 @@ impl Recorder {
         lines.iter().for_each(|line| self.line(line));
         self.cluster = wanted;
         self.keep_slices();
+        self.run.counts.add_state();
     }
 
     /// Makes a call.

@@ -1,5 +1,5 @@
-//! Scenes that are handed in: each call where it is not declined, under every fate, and with the
-//! faults that it can meet.
+//! Scenes that are handed in: each call where it is not declined, under every fate and with the least
+//! interval, and with the faults that it can meet.
 
 use std::ops::RangeInclusive;
 
@@ -11,6 +11,7 @@ use crate::medium::{
     self, place_at, seal, DATA_AT, LENGTH_AT, PLACE_BYTES, SLOT_BYTES, SLOT_ZEROS_AT,
 };
 use crate::random::Random;
+use crate::tries::checkpoint::Checkpoint;
 use crate::tries::faults::{faults_of, with_faults, Fault};
 use crate::tries::scene::{
     all_scenes, record_bytes, set_place, set_promise, Kind, Scene, PLACES, REPLICA, SERVER, SESSION,
@@ -19,6 +20,7 @@ use crate::tries::scene::{
 pub fn replay(recorder: &mut Recorder, random: &mut Random) {
     for scene in all_scenes() {
         under_every_fate(recorder, &scene);
+        with_the_least_interval(recorder, &scene);
         with_each_fault(recorder, &scene);
         with_two_faults(recorder, random, &scene);
         particular(recorder, random, &scene);
@@ -37,6 +39,7 @@ fn particular(recorder: &mut Recorder, random: &mut Random, scene: &Scene) {
         Kind::Issue => {
             estimates(recorder, scene);
             ahead(recorder, scene);
+            Checkpoint::all().for_each(|checkpoint| try_scene(recorder, checkpoint.scene()));
         }
         Kind::Send => {
             few_members(recorder, scene);
@@ -54,6 +57,17 @@ fn under_every_fate(recorder: &mut Recorder, scene: &Scene) {
         scene.set_message(Message { fate, given: [0x5A; PLACE_BYTES] });
         try_scene(recorder, scene);
     }
+}
+
+/// K = 1, which only issue looks at: there the session has issued nothing.
+fn with_the_least_interval(recorder: &mut Recorder, scene: &Scene) {
+    let mut scene = scene.clone();
+    scene.cluster.shape.interval = 1;
+    if scene.kind == Kind::Issue {
+        let server = &mut scene.cluster.records.servers[SERVER];
+        server.starting = server.issued;
+    }
+    try_scene(recorder, scene);
 }
 
 /// The fates that a call can have: the register is never cut, and three calls send no message.

@@ -1,9 +1,9 @@
-//! Calls that bring a cluster on: recoveries to their end, logs filled, now and then a handover
-//! while the old server goes on talking.
+//! Calls that bring a cluster on: recoveries to their end, logs filled, a new session where the
+//! interval asks for one, now and then a handover while the old server goes on talking.
 
 use crate::cluster::{Call, Cluster, Phase, Request, Server, Standing};
 use crate::random::Random;
-use crate::tries::caller::Caller;
+use crate::tries::caller::{is_spent, Caller};
 use crate::votes;
 
 /// The next call of a server that knows what it wants; one in some is drawn at random.
@@ -22,13 +22,15 @@ pub fn next_call(random: &mut Random, caller: &Caller, cluster: &Cluster) -> Cal
     }
 }
 
-/// The server of the newest session, or now and then another: one that is idle takes over.
+/// The server of the newest session, or now and then another: one that is idle takes over, sooner if
+/// the newest session can issue no more.
 fn pick_server(random: &mut Random, cluster: &Cluster) -> u64 {
     let record = |server: u64| &cluster.records.servers[server as usize];
     let newest = (0..4).max_by_key(|&server| record(server).session).expect("four servers");
     let other = random.below(4);
     let rate = match record(other).phase {
         _ if record(newest).phase == Phase::Idle => 1,
+        Phase::Idle if is_spent(cluster, newest) => 5,
         Phase::Idle => 60,
         _ => 5,
     };
@@ -59,16 +61,16 @@ impl Useful<'_> {
         self.replicas(|standing, mark| standing == Standing::In && such(mark))
     }
 
-    /// Servers whose session is over end sooner or later, also those of a full log; some end while
-    /// a record stands on a minority.
+    /// Servers whose session is over end sooner or later, also those of a full log and those that
+    /// may issue no more; some end while a record stands on a minority.
     fn ends(&self, random: &mut Random) -> bool {
         let Server { session, issued, acknowledged, .. } = *self.record;
         let over = session != self.cluster.records.register.session;
-        let full = issued == self.cluster.shape.places;
+        let spent = issued == self.cluster.shape.places || is_spent(self.cluster, self.server);
         let unfinished = acknowledged < issued && !self.used(|mark| mark == issued).is_empty();
         random.chance(60)
-            || (over && random.chance(4))
-            || ((full || unfinished) && random.chance(6))
+            || ((over || spent) && random.chance(4))
+            || (unfinished && random.chance(6))
     }
 
     fn opening_call(&self, random: &mut Random) -> Call {
@@ -103,19 +105,23 @@ impl Useful<'_> {
     }
 
     /// A member that lacks just the issued record gets it; one further behind is copied to. What
-    /// is acknowledged is read and noted, then more is issued.
+    /// is acknowledged is read and noted, then more is issued, or asked for where none may be.
     fn open_call(&self, random: &mut Random) -> Call {
         let Server { issued, acknowledged, .. } = *self.record;
         let full = issued == self.cluster.shape.places;
         if random.chance(if full && acknowledged == issued { 2 } else { 6 }) {
             return self.look(random);
         }
+        if !full && is_spent(self.cluster, self.server) && random.chance(2) {
+            return Call::Issue { server: self.server, request: self.request(random) };
+        }
         let behind = self.used(|mark| mark + 1 == issued);
         if !behind.is_empty() && (acknowledged < issued || random.chance(2)) {
             let (server, replica) = (self.server, *random.pick(&behind));
             return Call::Send { server, replica, message: self.caller.message(random) };
         }
-        if acknowledged < issued || random.chance(4) {
+        let lagging = !self.used(|mark| mark < issued).is_empty();
+        if acknowledged < issued || (lagging && random.chance(4)) {
             return self.copy_up(random, issued, &[]);
         }
         Call::Issue { server: self.server, request: self.request(random) }

@@ -27,6 +27,9 @@ impl Caller {
         match phase {
             Phase::Idle => Call::Take { server, fate: self.register_fate(random) },
             Phase::Opening => self.opening_call(random, cluster, server),
+            Phase::Open if is_spent(cluster, server) && random.chance(6) => {
+                self.make_way(random, cluster, server)
+            }
             Phase::Open => self.open_call(random, cluster, server),
         }
     }
@@ -72,6 +75,17 @@ impl Caller {
         }
     }
 
+    /// The server is stopped, or another takes the next session while this one goes on talking.
+    fn make_way(&self, random: &mut Random, cluster: &Cluster, server: u64) -> Call {
+        let idle = |&other: &u64| cluster.records.servers[other as usize].phase == Phase::Idle;
+        match (0..self.servers).find(idle) {
+            Some(server) if random.chance(2) => {
+                Call::Take { server, fate: self.register_fate(random) }
+            }
+            _ => Call::Stop { server },
+        }
+    }
+
     fn copy(&self, random: &mut Random, cluster: &Cluster, server: u64) -> Call {
         let [from, to] = [(); 2].map(|_| draw_usable(random, cluster, server));
         Call::Copy { server, from, to, message: self.message(random) }
@@ -104,6 +118,13 @@ impl Caller {
         let fate = *random.pick(&[Fate::Lost, Fate::AnswerLost, cut, cut, cut]);
         Message { fate, given: draw_given(random) }
     }
+}
+
+/// Whether the server's session has stored all that its interval lets it issue: only another session
+/// can go on.
+pub fn is_spent(cluster: &Cluster, server: u64) -> bool {
+    let Server { issued, acknowledged, .. } = cluster.records.servers[server as usize];
+    acknowledged >= issued && cluster.is_checkpoint_due(server as usize)
 }
 
 /// Whether the call's message is cut.

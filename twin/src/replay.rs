@@ -43,7 +43,6 @@ mod scenes;
 mod state_lines;
 mod sums;
 mod texts;
-mod useful;
 
 use crate::random::Random;
 

@@ -6,3 +6,4 @@ pub mod checkpoint;
 pub mod faults;
 pub mod scene;
 pub mod states;
+pub mod useful;

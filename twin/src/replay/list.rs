@@ -1,11 +1,12 @@
 //! The list of states and calls of a run.
 
 use super::recorder::Recorder;
-use super::{random_states, scenes, useful, Run};
+use super::{random_states, scenes, Run};
 use crate::cluster::{Call, Cluster, Shape};
 use crate::fate::Fate;
 use crate::random::Random;
 use crate::tries::caller::Caller;
+use crate::tries::useful;
 
 /// R, N and K of the fresh clusters.
 const SHAPES: [(u64, u64, u64); 12] = [

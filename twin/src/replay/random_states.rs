@@ -1,13 +1,13 @@
 //! Random states that are handed in.
 
 use super::recorder::Recorder;
-use super::useful;
 use crate::cluster::{Cluster, Phase, Records, Shape};
 use crate::medium;
 use crate::random::Random;
 use crate::tries::caller::Caller;
 use crate::tries::scene::{record_bytes, SERVER};
 use crate::tries::states::Draw;
+use crate::tries::useful;
 
 /// Random states that are handed in, and calls made on each.
 const STATES: u64 = 60;

@@ -1,9 +1,9 @@
 //! Calls that bring a cluster on: recoveries to their end, logs filled, a new session where the
 //! interval asks for one, now and then a handover while the old server goes on talking.
 
+use super::caller::{is_spent, Caller};
 use crate::cluster::{Call, Cluster, Phase, Request, Server, Standing};
 use crate::random::Random;
-use crate::tries::caller::{is_spent, Caller};
 use crate::votes;
 
 /// The next call of a server that knows what it wants; one in some is drawn at random.

@@ -26,7 +26,7 @@ type Log = BTreeMap<u64, Held>;
 pub struct Session {
     /// One log for each replica that its starting part may be read from.
     logs: Vec<Log>,
-    starting: u64,
+    pub starting: u64,
     pub acknowledged: u64,
 }
 

@@ -1,14 +1,17 @@
 //! The guarantee between sessions, on long random lists of calls from fresh clusters: every fate, a
-//! cut at any write, old servers that go on talking.
+//! cut at any write, old servers that go on talking, sessions that the interval ends.
 
 mod history;
 
+use std::collections::BTreeSet;
+
 use history::History;
-use twin::cluster::{Call, Cluster, Reply, Shape, ORDER};
+use twin::cluster::{Call, Cluster, Refusal, Reply, Shape, ORDER};
 use twin::random::Random;
 use twin::tries::caller::{self, Caller};
+use twin::tries::useful;
 
-const LISTS: u64 = 2_000;
+const LISTS: u64 = 3_000;
 const CALLS: usize = 300;
 
 /// What the lists met, so that the test is seen not to be empty.
@@ -20,6 +23,11 @@ struct Met {
     locked: u64,
     cuts: u64,
     refusals: [u64; ORDER.len() + 1],
+    /// Sessions that were declined with 23 while they were the newest.
+    due: u64,
+    /// Those after which another was opened, and where that one acknowledged more.
+    forced: u64,
+    resumed: u64,
 }
 
 impl Met {
@@ -31,32 +39,64 @@ impl Met {
         }
     }
 
-    fn count_list(&mut self, history: &History) {
+    fn count_list(&mut self, history: &History, due: &BTreeSet<u64>) {
         let opened = history.opened();
         self.changes += u64::from(opened.len() >= 2);
         self.acknowledged += opened.values().map(|session| session.acknowledged).sum::<u64>();
+        self.due += due.len() as u64;
+        let next = |session: &u64| opened.range(session + 1..).next();
+        for (_, session) in due.iter().filter_map(next) {
+            self.forced += 1;
+            self.resumed += u64::from(session.acknowledged > session.starting);
+        }
     }
 }
 
-fn run_list(random: &mut Random, met: &mut Met) {
+/// K is often far below N, and now and then N.
+fn draw_shape(random: &mut Random) -> Shape {
     let replicas = *random.pick(&[1, 3, 3, 3, 5, 7]);
-    let most_places = *random.pick(&[3, 6, 12]);
+    let most_places = *random.pick(&[3, 10, 30]);
     let places = 1 + random.below(most_places);
-    let mut cluster = Cluster::fresh(Shape::whole(replicas, places)).expect("an allowed shape");
-    let mut history = History::new(replicas as usize, places as usize);
+    let few = 1 + random.below(places.min(3));
+    let any = 1 + random.below(places);
+    Shape { replicas, places, interval: *random.pick(&[few, few, few, any, places]) }
+}
+
+/// The session whose issue was declined with 23, if it is the newest that was opened.
+fn due_session(history: &History, cluster: &Cluster, call: &Call, reply: &Reply) -> Option<u64> {
+    let (Call::Issue { server, .. }, Err(Refusal::CheckpointDue)) = (call, reply) else {
+        return None;
+    };
+    let session = cluster.records.servers[*server as usize].session;
+    let newest = history.opened().keys().next_back();
+    (newest == Some(&session)).then_some(session)
+}
+
+fn run_list(random: &mut Random, met: &mut Met) {
+    let shape = draw_shape(random);
+    let mut cluster = Cluster::fresh(shape).expect("an allowed shape");
+    let mut history = History::new(shape.replicas as usize, shape.places as usize);
+    let mut due = BTreeSet::new();
     let caller = Caller::new(random);
+    // Calls of one list in two are drawn; those of the others bring the cluster on.
+    let drawn = random.chance(2);
     for _ in 0..CALLS {
-        let call = caller.next_call(random, &cluster);
+        let call = if drawn {
+            caller.next_call(random, &cluster)
+        } else {
+            useful::next_call(random, &caller, &cluster)
+        };
         let before = cluster.clone();
         let reply = cluster.apply(&call);
         if reply.is_err() {
             assert!(cluster == before, "a declined call changes nothing: {call:?}");
         }
         met.count_call(&call, &reply, cluster.media != before.media);
+        due.extend(due_session(&history, &before, &call, &reply));
         history.add(&before, &call, &reply, &cluster);
     }
     history.check();
-    met.count_list(&history);
+    met.count_list(&history, &due);
 }
 
 #[test]
@@ -70,7 +110,10 @@ fn later_sessions_keep_what_earlier_ones_acknowledged() {
     assert!(met.acknowledged > 5 * LISTS);
     assert!(met.locked > LISTS / 2);
     assert!(met.cuts > LISTS);
+    assert!(met.refusals[23] > LISTS);
+    assert!(met.forced > LISTS / 3);
+    assert!(met.resumed > LISTS / 6);
     // These cannot be met from a fresh cluster within reach.
-    let unmet: Vec<usize> = (1..=22).filter(|&number| met.refusals[number] == 0).collect();
+    let unmet: Vec<u64> = ORDER.into_iter().filter(|&it| met.refusals[it as usize] == 0).collect();
     assert_eq!(unmet, [1, 2, 18, 20, 21]);
 }

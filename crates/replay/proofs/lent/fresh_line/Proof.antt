@@ -10,6 +10,9 @@ at-requires c κs = search needs
 at-requires-2 : tie.Need-at-requires-2
 at-requires-2 c κs = search needs
 
+at-requires-3 : tie.Need-at-requires-3
+at-requires-3 c κs = search needs
+
 returns : tie.Need-returns
 returns c = search needs
 
@@ -55,6 +58,7 @@ fresh-line-spec =
     (tie.spec
     at-requires
     at-requires-2
+    at-requires-3
     returns
     size-requires
     returns-2

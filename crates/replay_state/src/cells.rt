@@ -22,26 +22,26 @@ pub const ISSUED: usize = 41;
 pub const RECORDS: usize = 219;
 
 // R, N and K.
-pub const SHAPE: usize = 219;
+pub const SHAPE: usize = RECORDS;
 
 // The lengths at which media and lock tables are lent.
-pub const LENT: usize = 222;
+pub const LENT: usize = SHAPE + 3;
 
 // The bytes that a torn write leaves; a request's data and locks, and how many there are of each.
-pub const GIVEN: usize = 224;
+pub const GIVEN: usize = LENT + 2;
 
-pub const DATA: usize = 232;
+pub const DATA: usize = GIVEN + 8;
 
-pub const SIZE: usize = 240;
+pub const SIZE: usize = DATA + 8;
 
-pub const LOCKS: usize = 241;
+pub const LOCKS: usize = SIZE + 1;
 
-pub const COUNT: usize = 249;
+pub const COUNT: usize = LOCKS + 8;
 
 // How many numbers all are.
-pub const ALL: usize = 250;
+pub const ALL: usize = COUNT + 1;
 
-pub type Cells = [u64; 250];
+pub type Cells = [u64; ALL];
 
 pub fn at(w: &[u64], k: usize) -> u64 {
     if k < w.len() {

@@ -9,7 +9,7 @@ use mathlib.Core.List.{List, [], _∷_, _++_}
 use Prim.Native.Nat.{ℕ, _<_}
 use native.Mathlib.Omega.{arith}
 use lib.Dec.{eqb, leb}
-use borrow.Author.Tests.{not-false, eqb-true, leb-true, ltb-false}
+use borrow.Author.Tests.{not-true, not-false, eqb-true, leb-true, ltb-false}
 use Rattle.base.proofs.Tests.{both, either, neither}
 use Rattle.quorum.specs.Vote.{decided}
 use Rattle.quorum.proofs.Filling.{EveryFillingGives, FillingsDiffer, ClusterSize, KnownWithin}
@@ -25,7 +25,7 @@ use Rattle.cluster.specs.Effects.{Result, trimEffect, openEffect}
 use Rattle.cluster.specs.Step.{effect, unless, rest, step}
 use Rattle.cluster.proofs.Rows.{passed}
 use Rattle.cluster.proofs.Marks.{marks-fit}
-use Rattle.cluster.proofs.Numbers.{mentions, other-number, behind, ok-passes}
+use Rattle.cluster.proofs.Numbers.{mentions, behind, is-given, gives, ok-passes}
 use Rattle.cluster.proofs.Declines.{declines, never-no}
 
 -- ---- the statement
@@ -80,14 +80,9 @@ known-of : (h : Shape) (x : State) (s : ℕ) → markAbove h (x .records) ≡ fa
 known-of h x s e l i k q = marks-fit h (x .records) s l e .marks i k
 
 -- the reply of a list whose first row is number 8, of a vote that is decided or not
-module _ (us : List Row) (x : State) (e : Result) (b : Bool) (m : mentions 8 us ≡ false) (never : e .reply ≡ no 8 [] → ⊥) where
-  eight : (rest (row 8 (not b) ∷ us) x e .reply ≡ no 8 []) ↔ (b ≡ false)
-  unfolding unless firstOf
-  eight = (to b, λ q. rw q)
-    where
-      to : (c : Bool) → rest (row 8 (not c) ∷ us) x e .reply ≡ no 8 [] → c ≡ false
-      to true q = absurd (never (other-number us x e 8 [] m q))
-      to false q = refl
+eight : (us : List Row) (x : State) (e : Result) (b : Bool) → mentions 8 us ≡ false → (e .reply ≡ no 8 [] → ⊥)
+    → (rest (row 8 (not b) ∷ us) x e .reply ≡ no 8 []) ↔ (b ≡ false)
+eight us x e b m never = (λ r. not-true b (is-given 8 us x e m (not b) [] never r), λ q. gives 8 us x e (not b) (ap not q))
 
 -- a call that is answered ok was not declined
 ok-reply : (ws : List Row) (x : State) (e : Result) (values : List ℕ) → rest ws x e .reply ≡ ok values → e .reply ≡ ok values

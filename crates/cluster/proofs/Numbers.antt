@@ -1,4 +1,5 @@
--- What the number of a reply says of the rows of a list: those before it pass, and a list that does not have it does not give it.
+-- What the number of a reply says of the rows of a list: a list that does not have it does not give it, and where it is given the rows before it pass
+-- and its own condition holds.
 -- Assumes nothing.
 use mathlib.Core.Path.{_≡_, refl, sym, ap, _∙_}
 use mathlib.Core.Bool.{Bool, true, false, cond, false≢true}
@@ -9,14 +10,24 @@ use lib.Dec.{eqb}
 use borrow.Author.Tests.{eq-eqb}
 use Rattle.cluster.specs.State.{State}
 use Rattle.cluster.specs.Replies.{ok, no}
-use Rattle.cluster.specs.Refusals.{Row, Verdict, pass, declined, firstOf, andThen}
+use Rattle.cluster.specs.Refusals.{Row, row, Verdict, pass, declined, firstOf, andThen}
 use Rattle.cluster.specs.Effects.{Result}
 use Rattle.cluster.specs.Step.{unless, rest}
 use Rattle.cluster.proofs.Rows.{firstOf-append}
 
+-- a row has this number
 unfoldable pub mentions : ℕ → List Row → Bool
 mentions n [] = false
 mentions n (w ∷ ws) = cond (eqb (w .number) n) true (mentions n ws)
+
+-- the rows before the first with this number, and behind it
+unfoldable pub until : ℕ → List Row → List Row
+until n [] = []
+until n (w ∷ ws) = cond (eqb (w .number) n) [] (w ∷ until n ws)
+
+unfoldable pub beyond : ℕ → List Row → List Row
+beyond n [] = []
+beyond n (w ∷ ws) = cond (eqb (w .number) n) ws (beyond n ws)
 
 given : (ws : List Row) (n : ℕ) (values : List ℕ) → firstOf ws ≡ declined n values → mentions n ws ≡ true
 unfolding firstOf mentions
@@ -61,6 +72,18 @@ module _ (ws : List Row) (x : State) (e : Result) (n : ℕ) (values : List ℕ) 
 pub behind : (ws us : List Row) (x : State) (e : Result) → firstOf ws ≡ pass → rest (ws ++ us) x e ≡ rest us x e
 unfolding andThen
 behind ws us x e q = rw (firstOf-append ws us, q)
+
+-- a row that comes first, with a number that none behind it has, and that the effect e does not reply
+module _ (n : ℕ) (us : List Row) (x : State) (e : Result) (unmentioned : mentions n us ≡ false) where
+  pub is-given : (b : Bool) (values : List ℕ) → (e .reply ≡ no n values → ⊥) → rest (row n b ∷ us) x e .reply ≡ no n values → b ≡ true
+  unfolding unless firstOf
+  is-given true values never r = refl
+  is-given false values never r = absurd (never (other-number us x e n values unmentioned r))
+
+-- its number is given where its condition holds
+pub gives : (n : ℕ) (us : List Row) (x : State) (e : Result) (b : Bool) → b ≡ true → rest (row n b ∷ us) x e .reply ≡ no n []
+unfolding unless firstOf
+gives n us x e b q = rw q
 
 -- a call that is answered ok was not declined
 pub ok-passes : (ws : List Row) (x : State) (e : Result) (values : List ℕ) → rest ws x e .reply ≡ ok values → firstOf ws ≡ pass

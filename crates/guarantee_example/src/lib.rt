@@ -1,2 +1,2 @@
-// A list of calls that the guarantee speaks of, worked out. There is no code: read specs/Example.antt. A crate of its own, since to work it out
-// takes longer than to prove the guarantee.
+// Two lists of calls that the guarantee speaks of, worked out. There is no code: read specs/Example.antt and specs/Checkpoint.antt. A crate of its
+// own, since to work them out takes longer than to prove the guarantee.

@@ -3,7 +3,7 @@
 
 mod history;
 
-use std::collections::BTreeSet;
+use std::collections::{BTreeMap, BTreeSet};
 
 use history::History;
 use twin::cluster::{Call, Cluster, Refusal, Reply, Shape, ORDER};
@@ -22,7 +22,8 @@ struct Met {
     acknowledged: u64,
     locked: u64,
     cuts: u64,
-    refusals: [u64; ORDER.len() + 1],
+    /// By number.
+    refusals: BTreeMap<u64, u64>,
     /// Sessions that were declined with 23 while they were the newest.
     due: u64,
     /// Those after which another was opened, and where that one acknowledged more.
@@ -33,7 +34,7 @@ struct Met {
 impl Met {
     fn count_call(&mut self, call: &Call, reply: &Reply, changed: bool) {
         match (call, reply) {
-            (_, Err(refusal)) => self.refusals[refusal.number() as usize] += 1,
+            (_, Err(refusal)) => *self.refusals.entry(refusal.number()).or_default() += 1,
             (Call::Issue { request, .. }, _) => self.locked += u64::from(!request.locks.is_empty()),
             _ => self.cuts += u64::from(changed && caller::is_cut(call)),
         }
@@ -110,10 +111,10 @@ fn later_sessions_keep_what_earlier_ones_acknowledged() {
     assert!(met.acknowledged > 5 * LISTS);
     assert!(met.locked > LISTS / 2);
     assert!(met.cuts > LISTS);
-    assert!(met.refusals[23] > LISTS);
+    assert!(met.refusals[&23] > LISTS);
     assert!(met.forced > LISTS / 3);
     assert!(met.resumed > LISTS / 6);
     // These cannot be met from a fresh cluster within reach.
-    let unmet: Vec<u64> = ORDER.into_iter().filter(|&it| met.refusals[it as usize] == 0).collect();
+    let unmet: Vec<u64> = ORDER.into_iter().filter(|it| !met.refusals.contains_key(it)).collect();
     assert_eq!(unmet, [1, 2, 18, 20, 21]);
 }

@@ -17,7 +17,7 @@ use Rattle.cluster.specs.Refusals.{Row, Verdict, pass, declined}
 use Rattle.checks.specs.declared.Check.{Check}
 use Rattle.checks.specs.declared.Check.the-variants.{Pass, Refuse}
 
--- a check in document 01's numbers
+-- a check in the papers' numbers
 abbrev pub verdictOf : Check → Verdict
 verdictOf Pass = pass
 verdictOf (Refuse why) = declined (numberOf why) (valuesOf why)

@@ -39,8 +39,8 @@ DueExactly =
 
 abbrev pub WithinInterval : Type 0
 WithinInterval =
-    (h : Shape) (x : State) (s : ℕ) (q : Request) (content locks given : List ℕ) (n : ℕ)
-    → step h x (issue s q content locks given) .reply ≡ ok (n ∷ [])
+    (h : Shape) (x : State) (s : ℕ) (q : Request) (content locks given : List ℕ) (n : ℕ) (vs : List ℕ)
+    → step h x (issue s q content locks given) .reply ≡ ok (n ∷ vs)
     → n ≤ serverAt (x .records) s .start + h .interval
 
 abbrev pub NeverDue : Type 0
@@ -111,9 +111,9 @@ never-due h x s q content locks given = not-due h x s q content locks given
 
 pub within-interval : WithinInterval
 unfolding step unless issueEffect
-within-interval h x s q content locks given n r =
+within-interval h x s q content locks given n vs r =
     let p = issue s q content locks given in
     let v = serverAt (x .records) s in
-    let all = ok-passes (rowsOf h x p) x (effect h x p (p .call)) (n ∷ []) r in
+    let all = ok-passes (rowsOf h x p) x (effect h x p (p .call)) (n ∷ vs) r in
     let same : v .issued + 1 ≡ n = cc (rw all at r) in
     omega (arith, same, leb-false (v .start + h .interval) (v .issued) (passed (rowsOf h x p) all 23))

@@ -1,5 +1,5 @@
 -- Condition 1: a call is declined exactly for the first row of its list whose condition holds, and then changes nothing; otherwise it does
--- what is defined for it, and the reply is ok or silent. The numbers of each list follow document 01's order.
+-- what is defined for it, and the reply is ok or silent. The numbers of each list follow the papers' order.
 -- The statement comes first, then its proof; the theorem is `declines`.
 -- Assumes nothing.
 use mathlib.Core.Path.{_≡_, refl, sym, ap, _∙_}

@@ -29,10 +29,10 @@ unfoldable pub beyond : ℕ → List Row → List Row
 beyond n [] = []
 beyond n (w ∷ ws) = cond (eqb (w .number) n) ws (beyond n ws)
 
-given : (ws : List Row) (n : ℕ) (values : List ℕ) → firstOf ws ≡ declined n values → mentions n ws ≡ true
+declined-mentions : (ws : List Row) (n : ℕ) (values : List ℕ) → firstOf ws ≡ declined n values → mentions n ws ≡ true
 unfolding firstOf mentions
-given [] n values e = let z : _≡_ {A = ℕ} 0 1 = cc in absurd (omega arith)
-given (w ∷ ws) n values e = go (w .holds) e (eqb (w .number) n) refl (given ws n values)
+declined-mentions [] n values e = let z : _≡_ {A = ℕ} 0 1 = cc in absurd (omega arith)
+declined-mentions (w ∷ ws) n values e = go (w .holds) e (eqb (w .number) n) refl (declined-mentions ws n values)
   where
     go :
         (c : Bool)
@@ -49,7 +49,7 @@ module _ (ws : List Row) (x : State) (e : Result) (n : ℕ) (values : List ℕ) 
   not-given : (k : ℕ) (vs : List ℕ) → firstOf ws ≡ declined k vs → no k vs ≡ no n values → ⊥
   not-given k vs d q =
       let same : k ≡ n = cc in
-      false≢true (sym unmentioned ∙ given ws n vs (d ∙ ap (λ (i : ℕ). declined i vs) same))
+      false≢true (sym unmentioned ∙ declined-mentions ws n vs (d ∙ ap (λ (i : ℕ). declined i vs) same))
 
   -- a number that no row of a list has is not given by it
   pub other-number : rest ws x e .reply ≡ no n values → e .reply ≡ no n values

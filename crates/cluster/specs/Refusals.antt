@@ -1,5 +1,5 @@
--- Why a call is declined: document 01's list, and what document 02 adds to it. First the conditions, each under its sentence and a function of what it looks at; then each
--- call's own list of them.
+-- Why a call is declined: document 01's list, and what document 02 adds to it. First the conditions, each under its sentence and a function of what it
+-- looks at; then each call's own list of them.
 -- Assumes nothing.
 use Prim.Native.Nat.{ℕ, _+_, _*_, _^_}
 use mathlib.Core.List.{List, [], _∷_, _++_}

@@ -1,4 +1,4 @@
--- Replies in document 01's numbers and values, and what each case of the answer enums is in them.
+-- Replies in the papers' numbers and values, and what each case of the answer enums is in them.
 -- Assumes nothing.
 use Prim.Native.Nat.{ℕ}
 use mathlib.Core.List.{List, [], _∷_}

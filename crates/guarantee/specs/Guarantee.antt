@@ -26,8 +26,10 @@
 --
 -- Each list of calls whose arguments fit is one of these lists: proofs/Readable.antt `readable`. With (1) and (2): all that the earlier of two
 -- opened sessions ever acknowledges is in the later one's log, the same bytes (proofs/Whole.antt `whole`). Nothing in a history is written over: a
--- session is opened once and issues an ID once (proofs/Once.antt `once`). Running `apply` over a list from `fresh::start` leaves the states of `along`
--- (proofs/Running.antt `runs`). The crate guarantee_example works a list out.
+-- session is opened once and issues an ID once (proofs/Once.antt `once`), and none more than K above its starting mark (proofs/Interval.antt
+-- `interval`).
+-- Running `apply` over a list from `fresh::start` leaves the states of `along` (proofs/Running.antt `runs`). The crate guarantee_example works two lists
+-- out.
 --
 -- How to read it, if you do not know the notation:
 --   x : A                  x is of the type A; ℕ are the numbers from 0, Bool is true or false, Type 0 is what is to be shown
@@ -65,7 +67,7 @@ use Rattle.guarantee.specs.History.{Element, Transaction, Logged, log, H
 
 -- "R replicas (R = 1, 3, 5 or 7), each with a medium of N places (1 to 1,000)"; document 02, No. 1: "an interval K, 1 to N". "Bookings made before
 -- the forced change must be found after it like any others": the change to a next session that K forces is one between two opened sessions, so
--- conclusions (1) and (2) say just that, and no conclusion names K.
+-- conclusions (1) and (2) say just that. No conclusion names K, and no proof needs to know its values.
 pub record InRange (h : Shape) : Type 0 where
   pub replicas : (h .replicas ≡ 1) ⊎ (h .replicas ≡ 3) ⊎ (h .replicas ≡ 5) ⊎ (h .replicas ≡ 7)
   pub least : 1 ≤ h .places

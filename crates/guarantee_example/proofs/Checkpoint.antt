@@ -23,8 +23,7 @@ use Rattle.guarantee_example.specs.Checkpoint.{shape, calls-1, calls-2, 
 use Rattle.guarantee_example.proofs.Outline.{Line, outline, retold, ReadAll, FitEach}
 use Rattle.guarantee_example.proofs.Worked.{unfolded, lines, opened-at, repliesIn, then-lines, told-by, covered, found}
 use Rattle.guarantee_example.proofs.Fitting.{issuing-fits, take, prepare, opens, send, stop, fit-then}
-use Rattle.guarantee_example.proofs.Written.{record-1, record-2, blank, slot-0, slot-1}
-use Rattle.guarantee_example.proofs.States.{three}
+use Rattle.guarantee_example.proofs.Written.{three, record-1, record-2, blank, slot-0, slot-1}
 
 -- ================ the states after parts 1 and 2
 
@@ -147,7 +146,7 @@ kept = guarantee shape in-range calls (covered shape calls expected all-lines fi
 
 -- ================ what it says of it
 
--- (1) what it acknowledged lies at or below session 2's starting mark
+-- (1) what session 1 acknowledged lies at or below session 2's starting mark
 pub start : finally .sessions 1 .acknowledged ≤ finally .sessions 2 .start
 start = kept .start 1 2 (shown .opened-1) (shown .opened-2) (lit< tt)
 

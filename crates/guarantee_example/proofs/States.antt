@@ -11,11 +11,7 @@ use Rattle.cluster.specs.declared.Register.{Register}
 use Rattle.cluster.specs.declared.Phase.the-variants.{Opening, Open}
 use Rattle.cluster.specs.declared.Server.{Server}
 use Rattle.cluster.specs.State.{State, freshEntry, idleServer, tableSize}
-use Rattle.guarantee_example.proofs.Written.{record-1, record-2, record-3, blank, slot-0, slot-1, slot-2}
-
--- a value for each of the three replicas, in an array of seven
-abbrev pub three : {A : Type 0} → A → A → A → A → List A
-three d a b c = a ∷ b ∷ c ∷ d ∷ d ∷ d ∷ d ∷ []
+use Rattle.guarantee_example.proofs.Written.{three, record-1, record-2, record-3, blank, slot-0, slot-1, slot-2}
 
 -- the register in this session, after session 1 was opened with all three
 abbrev register : ℕ → Register

@@ -1,8 +1,12 @@
--- The records of IDs 1 to 3, a wiped place, and the slots that promise sessions 0 to 2, to the byte: a list written out is read faster than one
+-- What the written-out states are made of. The records of IDs 1 to 3, a wiped place, and the slots that promise sessions 0 to 2, to the byte: a list written out is read faster than one
 -- that has to be worked out each time. Parts.antt and Checkpoint.antt show that the calls leave just these.
 -- Assumes nothing.
 use mathlib.Core.List.{List, [], _∷_}
 use Prim.Native.Nat.{ℕ}
+
+-- a value for each of the three replicas, in an array of seven
+abbrev pub three : {A : Type 0} → A → A → A → A → List A
+three d a b c = a ∷ b ∷ c ∷ d ∷ d ∷ d ∷ d ∷ []
 
 abbrev pub record-1 : List ℕ
 record-1 =

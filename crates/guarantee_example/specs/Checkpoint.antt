@@ -26,7 +26,7 @@ calls-1 =
     ∷ plain (call.Open 0 Answered)
     ∷ []
 
--- and acknowledges two bookings. A third is declined: places are free and all is acknowledged, but issued is the starting mark and K.
+-- and acknowledges two bookings. A third is declined: places are free and all is acknowledged, but issued is the starting mark plus K.
 abbrev pub calls-2 : List Element
 calls-2 =
     issuing 0 [] (0xAB ∷ [])

@@ -59,7 +59,8 @@ fn under_every_fate(recorder: &mut Recorder, scene: &Scene) {
     }
 }
 
-/// K = 1, which only issue looks at: there the session has issued nothing.
+/// K = 1, which is within its values: only issue does other than with K = N, so there the session has
+/// issued nothing.
 fn with_the_least_interval(recorder: &mut Recorder, scene: &Scene) {
     let mut scene = scene.clone();
     scene.cluster.shape.interval = 1;

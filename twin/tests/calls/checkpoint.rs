@@ -131,7 +131,7 @@ fn with_interval(cluster: &Cluster, call: &Call, interval: u64) -> (Reply, Clust
 /// On random states: whatever K is, a call does what it does with K = N; only issue may come to 23,
 /// and only where otherwise it is granted or comes to 15.
 #[test]
-fn no_call_but_issue_looks_at_the_interval() {
+fn within_1_to_n_only_issue_looks_at_the_interval() {
     let mut random = Random::new(12);
     let mut due = 0;
     for _ in 0..100_000 {

@@ -56,6 +56,11 @@ impl History {
         &self.opened
     }
 
+    /// What was issued: the session and the ID.
+    pub fn issued(&self) -> impl Iterator<Item = (u64, u64)> + '_ {
+        self.issued.keys().copied()
+    }
+
     /// Adds one call; a declined one leaves no trace.
     pub fn add(&mut self, before: &Cluster, call: &Call, reply: &Reply, after: &Cluster) {
         let Ok(answer) = reply else {

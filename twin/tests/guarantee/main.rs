@@ -73,6 +73,14 @@ fn due_session(history: &History, cluster: &Cluster, call: &Call, reply: &Reply)
     (newest == Some(&session)).then_some(session)
 }
 
+/// A session issues the IDs above its starting mark, and K of them at most.
+fn assert_within_interval(history: &History, interval: u64) {
+    for (session, id) in history.issued() {
+        let starting = history.opened()[&session].starting;
+        assert!((starting + 1..=starting + interval).contains(&id), "session {session}, ID {id}");
+    }
+}
+
 fn run_list(random: &mut Random, met: &mut Met) {
     let shape = draw_shape(random);
     let mut cluster = Cluster::fresh(shape).expect("an allowed shape");
@@ -97,6 +105,7 @@ fn run_list(random: &mut Random, met: &mut Met) {
         history.add(&before, &call, &reply, &cluster);
     }
     history.check();
+    assert_within_interval(&history, shape.interval);
     met.count_list(&history, &due);
 }
 

@@ -48,12 +48,13 @@ pub record Line : Type 0 where
 abbrev lineOf : Shape → State → Element → Line
 lineOf h x e = record { reply = step h x (e .input) .reply; opens = opensBy h x e (e .input .call) }
 
--- the lines, and the state that is left
+-- the lines, and the state that is left. The call's result is named, so that it is worked out once.
 unfoldable pub outline : Shape → State → List Element → List Line × State
 outline h x [] = ([], x)
 outline h x (e ∷ es) =
-    let o = outline h (step h x (e .input) .state) es in
-    (lineOf h x e ∷ o .0, o .1)
+    let r = step h x (e .input) in
+    let o = outline h (r .state) es in
+    (record { reply = r .reply; opens = opensBy h x e (e .input .call) } ∷ o .0, o .1)
 
 pub outline-then : (h : Shape) (x : State) (es fs : List Element)
     → outline h x (es ++ fs) ≡ (outline h x es .0 ++ outline h (outline h x es .1) fs .0, outline h (outline h x es .1) fs .1)

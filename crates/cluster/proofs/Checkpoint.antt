@@ -22,7 +22,7 @@ use Rattle.cluster.specs.Step.{effect, unless, rest, step}
 use Rattle.cluster.proofs.Rows.{passed}
 use Rattle.cluster.proofs.Marks.{marks-fit}
 use Rattle.cluster.proofs.Numbers.{mentions, until, beyond, passes-before, behind, is-given, gives, ok-passes}
-use Rattle.cluster.proofs.Declines.{declines, isAnswered, never-no}
+use Rattle.cluster.proofs.Declines.{effect-never-no}
 
 -- ---- the statements
 
@@ -62,9 +62,6 @@ module _ (h : Shape) (x : State) (s : ℕ) (q : Request) (content locks given : 
   abbrev e : Result
   e = effect h x p (p .call)
 
-  never-declined : (values : List ℕ) → e .reply ≡ no 23 values → ⊥
-  never-declined values q = let r = declines h x p .replies in never-no (isAnswered (p .call)) (r .0) 23 values (sym (r .1) ∙ q)
-
   -- the rows before 23, it, and those behind it
   abbrev ws : List Row
   ws = until 23 (rowsOf h x p)
@@ -82,10 +79,10 @@ module _ (h : Shape) (x : State) (s : ℕ) (q : Request) (content locks given : 
   when-due : (values : List ℕ) → firstOf ws ≡ pass → step h x p .reply ≡ no 23 values → v .start + h .interval ≤ v .issued
   unfolding mentions beyond
   when-due values k r =
-      leb-true (v .start + h .interval) (v .issued) (is-given 23 us x e refl due values (never-declined values) (sym (at-due k) ∙ r))
+      leb-true (v .start + h .interval) (v .issued) (is-given (row 23 due) us x e refl values (effect-never-no h x p 23 values) (sym (at-due k) ∙ r) .0)
 
   then-due : firstOf ws ≡ pass → v .start + h .interval ≤ v .issued → step h x p .reply ≡ no 23 []
-  then-due k l = at-due k ∙ gives 23 us x e due (le-leb (v .start + h .interval) (v .issued) l)
+  then-due k l = at-due k ∙ gives (row 23 due) us x e (le-leb (v .start + h .interval) (v .issued) l)
 
   -- with K = N: issued is at most N and is not N, so it is not N more than anything
   not-due : (values : List ℕ) → h .interval ≡ h .places → step h x p .reply ≡ no 23 values → ⊥

@@ -160,9 +160,13 @@ module _ (h : Shape) (x : State) (p : Input) where
   replies (call.Stop s) = (_, refl)
   replies call.Reassign = (_, refl)
 
-pub never-no : (a : Bool) (us : List ℕ) (n : ℕ) (vs : List ℕ) → cond a (ok us) silent ≡ no n vs → ⊥
+never-no : (a : Bool) (us : List ℕ) (n : ℕ) (vs : List ℕ) → cond a (ok us) silent ≡ no n vs → ⊥
 never-no true us n vs e = let z : _≡_ {A = ℕ} 0 1 = cc in omega arith
 never-no false us n vs e = let z : _≡_ {A = ℕ} 0 1 = cc in omega arith
+
+-- what is defined for a call declines nothing
+pub effect-never-no : (h : Shape) (x : State) (p : Input) (n : ℕ) (values : List ℕ) → effect h x p (p .call) .reply ≡ no n values → ⊥
+effect-never-no h x p n values q = let r = replies h x p (p .call) in never-no (isAnswered (p .call)) (r .0) n values (sym (r .1) ∙ q)
 
 -- ---- a call
 
@@ -207,7 +211,7 @@ module _ (h : Shape) (x : State) (p : Input) where
           record { at = i; first = f; same-number = cc; same-values = cc }
 
       none : NoneHolds ws → DeclinedBy ws n values
-      none q = absurd (never-no (isAnswered (p .call)) _ n values (sym (replies h x p (p .call) .1) ∙ sym (ap (λ r. r .reply) (by-none q)) ∙ e))
+      none q = absurd (effect-never-no h x p n values (sym (ap (λ r. r .reply) (by-none q)) ∙ e))
 
   no-of-first : (n : ℕ) (values : List ℕ) → DeclinedBy ws n values → step h x p .reply ≡ no n values
   no-of-first n values d = ap (λ r. r .reply) (by-first (d .at) (d .first)) ∙ rw (d .same-number, d .same-values)

@@ -10,7 +10,7 @@ use lib.Dec.{eqb}
 use borrow.Author.Tests.{eq-eqb}
 use Rattle.cluster.specs.State.{State}
 use Rattle.cluster.specs.Replies.{ok, no}
-use Rattle.cluster.specs.Refusals.{Row, row, Verdict, pass, declined, firstOf, andThen}
+use Rattle.cluster.specs.Refusals.{Row, Verdict, pass, declined, firstOf, andThen}
 use Rattle.cluster.specs.Effects.{Result}
 use Rattle.cluster.specs.Step.{unless, rest}
 use Rattle.cluster.proofs.Rows.{firstOf-append}
@@ -74,16 +74,23 @@ unfolding andThen
 behind ws us x e q = rw (firstOf-append ws us, q)
 
 -- a row that comes first, with a number that none behind it has, and that the effect e does not reply
-module _ (n : ℕ) (us : List Row) (x : State) (e : Result) (unmentioned : mentions n us ≡ false) where
-  pub is-given : (b : Bool) (values : List ℕ) → (e .reply ≡ no n values → ⊥) → rest (row n b ∷ us) x e .reply ≡ no n values → b ≡ true
+module _ (w : Row) (us : List Row) (x : State) (e : Result) (unmentioned : mentions (w .number) us ≡ false) where
+  pub is-given :
+      (values : List ℕ)
+      → (e .reply ≡ no (w .number) values → ⊥)
+      → rest (w ∷ us) x e .reply ≡ no (w .number) values
+      → (w .holds ≡ true) × (values ≡ w .values)
   unfolding unless firstOf
-  is-given true values never r = refl
-  is-given false values never r = absurd (never (other-number us x e n values unmentioned r))
+  is-given values never r = go (w .holds) r
+    where
+      go : (b : Bool) → unless (cond b (declined (w .number) (w .values)) (firstOf us)) x e .reply ≡ no (w .number) values → (b ≡ true) × (values ≡ w .values)
+      go true r = (refl, cc)
+      go false r = absurd (never (other-number us x e (w .number) values unmentioned r))
 
--- its number is given where its condition holds
-pub gives : (n : ℕ) (us : List Row) (x : State) (e : Result) (b : Bool) → b ≡ true → rest (row n b ∷ us) x e .reply ≡ no n []
+-- its number and values are given where its condition holds
+pub gives : (w : Row) (us : List Row) (x : State) (e : Result) → w .holds ≡ true → rest (w ∷ us) x e .reply ≡ no (w .number) (w .values)
 unfolding unless firstOf
-gives n us x e b q = rw q
+gives w us x e q = rw q
 
 -- a call that is answered ok was not declined
 pub ok-passes : (ws : List Row) (x : State) (e : Result) (values : List ℕ) → rest ws x e .reply ≡ ok values → firstOf ws ≡ pass

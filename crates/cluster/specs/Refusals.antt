@@ -190,8 +190,8 @@ full N v = eqb (v .issued) N
 abbrev pub checkpointDue : ℕ → Server → Bool
 checkpointDue K v = leb (v .start + K) (v .issued)
 
--- 15 "A lock's estimate is not below the client's mark (004: the client's mark must be higher); the first such lock and its estimate
--- are given"
+-- 15, document 02, No. 2: "Refusal 15 is given only if an estimate is above the client's mark", in place of document 01's "A lock's estimate is not
+-- below the client's mark (004: the client's mark must be higher)"; "the first such lock and its estimate are given"
 abbrev pub isHeld : LockTest → Bool
 isHeld Free = false
 isHeld (Held k e) = true

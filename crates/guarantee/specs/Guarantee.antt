@@ -22,12 +22,14 @@
 --   (1) all that the earlier ever acknowledges lies at or below the later one's starting mark: `Kept.start`
 --   (2) both logs hold the same bytes under each ID that both acknowledge: `Kept.same`. There is one x that both logs have under n, bytes and
 --       transaction: they are even of the same issue call. s = u is included: a log has something under each ID that its session acknowledges.
---   (3) no transaction in a log shares a lock with one that stands in that log above its client's mark and below its own ID: `Kept.apart`
+--   (3) no transaction in a log shares a lock with one that stands in that log above its client's mark and below its own ID: `Kept.apart`. Document 02,
+--       No. 2, asks for the same: "Two transactions that share a lock must still never both stand in one opened session's log with the later one's client
+--       unaware of the earlier". A client whose mark is the earlier one's ID is aware of it.
 --
 -- Each list of calls whose arguments fit is one of these lists: proofs/Readable.antt `readable`. With (1) and (2): all that the earlier of two
 -- opened sessions ever acknowledges is in the later one's log, the same bytes (proofs/Whole.antt `whole`). Nothing in a history is written over: a
 -- session is opened once and issues an ID once (proofs/Once.antt `once`), and none more than K above its starting mark (proofs/Interval.antt
--- `interval`).
+-- `interval`). A client that has read everything is not declined by 15 (proofs/Readers.antt `readers`).
 -- Running `apply` over a list from `fresh::start` leaves the states of `along` (proofs/Running.antt `runs`). The crate guarantee_example works two lists
 -- out.
 --

@@ -3,7 +3,7 @@
 use mathlib.Core.Path.{_≡_, refl, ap, subst⁻¹}
 use mathlib.Core.Bool.{true}
 use mathlib.Core.Logic.{inl, inr}
-use mathlib.Core.List.{List, [], _++_}
+use mathlib.Core.List.{List, [], _++_, List·Memᴰ·head}
 use mathlib.Core.Option.{some}
 use Prim.Native.Nat.{ℕ, _≤_}
 use native.Mathlib.Omega.{arith}
@@ -69,12 +69,12 @@ fits-1 : FitEach calls-1
 fits-1 = (take 0, (prepare 0 0, (prepare 0 1, (prepare 0 2, (opens 0, tt)))))
 
 fits-2 : FitEach calls-2
-fits-2 = (issuing-fits 0 [] _ (lit< tt, tt), (send 0 Answered, (send 1 Answered, (send 2 Answered, tt))))
+fits-2 = (issuing-fits 0 _ _ (lit< tt, tt), (send 0 Answered, (send 1 Answered, (send 2 Answered, tt))))
 
 fits-3 : FitEach calls-3
 fits-3 = (
   issuing-fits 1 _ [] tt,
-  (send 0 Answered, (send 1 Answered, (send 2 (Cut 1 New), (issuing-fits 2 _ [] tt, (issuing-fits 1 _ [] tt, (send 0 Answered, tt)))))),
+  (send 0 Answered, (send 1 Answered, (send 2 (Cut 1 New), (issuing-fits 1 _ [] tt, (issuing-fits 1 _ [] tt, (send 0 Answered, tt)))))),
 )
 
 fits-4 : FitEach calls-4
@@ -121,3 +121,7 @@ third-2 = also 3 third (lit≤ tt) (lit≤ tt) (shown .third-1)
 -- (3) ID 2 stands above the mark of ID 3's client and below ID 3: they share no lock
 pub apart : ¬ Share (third .transaction) (second .transaction)
 apart = kept .apart 1 3 2 third second (shown .opened-1) (shown .third-1) (shown .second-1) (lit< tt) (lit< tt)
+
+-- ID 1 does not stand above the mark of ID 2's client, which is just ID 1: they share lock 7
+pub shared : Share (second .transaction) (first .transaction) × (second .transaction .mark ≡ 1)
+shared = ((7, List·Memᴰ·head refl, List·Memᴰ·head refl), refl)

@@ -54,7 +54,13 @@ state-1 =
       tables = replicate {A = ℕ} (4 * tableSize) 0;
     }
 
--- after part 2
+-- after part 2, in which ID 1 entered lock 7
+abbrev table-2 : List ℕ
+table-2 = markedAll (replicate {A = ℕ} tableSize 0) (7 ∷ []) 1
+
+abbrev idle-tables : List ℕ
+idle-tables = replicate {A = ℕ} (3 * tableSize) 0
+
 unfoldable pub state-2 : State
 state-2 =
     let m = medium slot-0 slot-1 record-1 blank blank in
@@ -65,7 +71,7 @@ state-2 =
             servers = server-0 (replicate 7 false) (three 0 1 1 1) 1 1 record-1 ∷ idleServer ∷ idleServer ∷ idleServer ∷ [];
           };
       media = m ++ (m ++ m);
-      tables = replicate {A = ℕ} (4 * tableSize) 0;
+      tables = table-2 ++ idle-tables;
     }
 
 -- after part 3: the server recorded no more than 1 of replica 2, which holds 2
@@ -73,7 +79,7 @@ abbrev last-0 : Server
 last-0 = server-0 (three false false false true) (three 0 3 2 1) 3 2 record-3
 
 abbrev locked : List ℕ
-locked = markedAll (markedAll (replicate {A = ℕ} tableSize 0) (7 ∷ []) 2) (5 ∷ 9 ∷ 9 ∷ []) 3 ++ replicate {A = ℕ} (3 * tableSize) 0
+locked = markedAll (markedAll table-2 (7 ∷ []) 2) (5 ∷ 9 ∷ 9 ∷ []) 3 ++ idle-tables
 
 unfoldable pub state-3 : State
 state-3 =

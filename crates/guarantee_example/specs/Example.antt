@@ -25,24 +25,25 @@ calls-1 =
     ∷ plain (call.Open 0 Answered)
     ∷ []
 
--- and acknowledges ID 1
+-- and acknowledges ID 1, which has lock 7: on an empty log a client that has read nothing may have any lock
 abbrev pub calls-2 : List Element
 calls-2 =
-    issuing 0 [] (0xAB ∷ [])
+    issuing 0 (7 ∷ []) (0xAB ∷ [])
     ∷ plain (call.Send 0 0 Answered)
     ∷ plain (call.Send 0 1 Answered)
     ∷ plain (call.Send 0 2 Answered)
     ∷ []
 
--- ID 2 has lock 7; its write on replica 2 is cut, with the new bytes left. A client that does not know ID 2 asks for the same lock and is declined;
--- one that knows no more gets ID 3 with other locks (9 shares a place of the table with 7). ID 3 reaches replica 0 only.
+-- ID 2 has lock 7 too: its client has read ID 1, the lock's last writer. Its write on replica 2 is cut, with the new bytes left. A client that has read
+-- no more asks for the same lock and is declined, since it does not know ID 2; it gets ID 3 with other locks (9 shares a place of the table with 7). ID 3
+-- reaches replica 0 only.
 abbrev pub calls-3 : List Element
 calls-3 =
     issuing 1 (7 ∷ []) []
     ∷ plain (call.Send 0 0 Answered)
     ∷ plain (call.Send 0 1 Answered)
     ∷ plain (call.Send 0 2 (Cut 1 New))
-    ∷ issuing 2 (7 ∷ []) []
+    ∷ issuing 1 (7 ∷ []) []
     ∷ issuing 1 (5 ∷ 9 ∷ 9 ∷ []) []
     ∷ plain (call.Send 0 0 Answered)
     ∷ []
@@ -87,7 +88,7 @@ replies-5 = value 3 ∷ value 3 ∷ value 3 ∷ []
 
 -- what both logs have under IDs 1 to 3
 abbrev pub first : Logged
-first = logged 1 5 0 [] (0xAB ∷ [])
+first = logged 1 5 0 (7 ∷ []) (0xAB ∷ [])
 
 abbrev pub second : Logged
 second = logged 2 9 1 (7 ∷ []) []

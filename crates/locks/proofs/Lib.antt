@@ -1,3 +1,4 @@
 pub mod Product
 pub mod Laws
+pub mod Conflicts
 pub mod NoFalseNegatives

@@ -1,23 +1,22 @@
--- No false negatives (Waltz Internals, "Optimistic Locking": "If the estimate is smaller than the transaction's high-water mark, the
--- transaction is safe. There will be no false-negative."): after any list of granted issues on a table filled with a starting mark, a lock's
--- estimate is at least the last ID that wrote it and at least the starting mark, whatever other locks share its places. So a request is
--- granted only to a client whose mark is above every ID that wrote one of its locks.
+-- No false negatives (Waltz Internals, "Optimistic Locking": "There will be no false-negative."): after any list of granted issues on a table filled
+-- with a starting mark, a lock's estimate is at least the last ID that wrote it and at least the starting mark, whatever other locks share its
+-- places. So a request is granted only to a client whose mark is at or above every ID that wrote one of its locks: "Two transactions that share a
+-- lock must still never both stand in one opened session's log with the later one's client unaware of the earlier" (document 02, No. 2, which
+-- replaces 004's "If the estimate is smaller than the transaction's high-water mark, the transaction is safe").
 -- The statement comes first, then the steps, one issue each, then the theorem `no-false-negatives`.
 -- Assumes nothing.
-use mathlib.Core.Path.{_≡_, refl, ap, _∙_}
-use mathlib.Core.Bool.{Bool, true, false}
+use mathlib.Core.Path.{_≡_, ap, _∙_}
 use mathlib.Core.Logic.{_⊎_, inl, inr, ⊎-elim}
 use mathlib.Core.List.{List, [], _∷_, List·Memᴰ, List·Memᴰ·cases-cons, List·Memᴰ·not-nil}
 use Prim.Native.Nat.{ℕ, zero, suc, _≤_, _<_}
 use native.Mathlib.Omega.{arith}
 use lib.ListN.{length, getD, set, replicate, length-set, length-replicate, getD-replicate}
 use lib.Seq.{getD-set-same}
-use lib.Dec.{ltb}
 use Rattle.base.proofs.Tests.{lt-or-le}
-use borrow.Author.Tests.{ltb-true, not-false}
 use Rattle.locks.specs.declared.LockTest.the-variants.{Free}
-use Rattle.locks.specs.Locks.{placeOf, estimateOf, markedAt, markedAll, conflict, firstHeld}
+use Rattle.locks.specs.Locks.{placeOf, estimateOf, markedAt, markedAll, firstHeld}
 use Rattle.locks.proofs.Laws.{length-marked, length-marked-all}
+use Rattle.locks.proofs.Conflicts.{granted-exactly}
 
 -- ---- the statement
 
@@ -44,11 +43,11 @@ pub record Wrote (gs : List Granted) (k id : ℕ) : Type 0 where
   pub given : issue .id ≡ id
 
 -- what a table says after granted issues: no estimate is below the starting mark, nor below any ID that wrote its lock, so not below the
--- last; and a request is granted only if its client's mark is above every ID that wrote one of its locks
+-- last; and a request is granted only if its client's mark is at or above every ID that wrote one of its locks
 pub record Sound (table : List ℕ) (start : ℕ) (gs : List Granted) : Type 0 where
   pub from-start : (k : ℕ) → start ≤ estimateOf table k
   pub from-writers : (k id : ℕ) → Wrote gs k id → id ≤ estimateOf table k
-  pub granted-knows : (ks : List ℕ) (client : ℕ) → firstHeld table ks client ≡ Free → (k id : ℕ) → List·Memᴰ k ks → Wrote gs k id → id < client
+  pub granted-knows : (ks : List ℕ) (client : ℕ) → firstHeld table ks client ≡ Free → (k id : ℕ) → List·Memᴰ k ks → Wrote gs k id → id ≤ client
 
 abbrev pub Statement : Type 0
 Statement = (start : ℕ) (gs : List Granted) → Rising start gs → Sound (afterAll (replicate 1024 start) gs) start gs
@@ -163,20 +162,6 @@ enters t (h ∷ ks) id k l m =
     (λ m. enters u ks id k (length-marked t h id ∙ l) m)
     (List·Memᴰ·cases-cons m)
 
-pub no-conflict : (estimate client : ℕ) → conflict estimate client ≡ false → estimate < client
-no-conflict estimate client e = ltb-true estimate client (not-false (ltb estimate client) e)
-
--- a request is granted only if the estimate of each of its locks is below the client's mark
-pub granted-above : (t ks : List ℕ) (client k : ℕ) → firstHeld t ks client ≡ Free → List·Memᴰ k ks → estimateOf t k < client
-unfolding firstHeld
-granted-above t [] client k f m = absurd (List·Memᴰ·not-nil m)
-granted-above t (h ∷ ks) client k f m = go (conflict (estimateOf t h) client) refl (λ g m. granted-above t ks client k g m)
-  where
-    go : (b : Bool) → conflict (estimateOf t h) client ≡ b → (firstHeld t ks client ≡ Free → List·Memᴰ k ks → estimateOf t k < client) → estimateOf t k < client
-    go true e more = absurd (let g = rw e at f in let w : _≡_ {A = ℕ} 0 1 = cc in omega arith)
-    go false e more =
-        ⊎-elim (λ (q : k ≡ h). rw q (no-conflict (estimateOf t h) client e)) (more (rw e at f)) (List·Memᴰ·cases-cons m)
-
 -- ---- the theorem
 
 -- over any table of estimates up to m, with IDs that rise above m
@@ -206,5 +191,5 @@ no-false-negatives start gs up =
     record {
       from-start = λ k. omega (arith, starts start k, all k .0);
       from-writers = λ k id w. all k .1 id w;
-      granted-knows = λ ks client f k id m w. omega (arith, all k .1 id w, granted-above (afterAll t gs) ks client k f m);
+      granted-knows = λ ks client f k id m w. omega (arith, all k .1 id w, granted-exactly (afterAll t gs) ks client .0 f k m);
     }

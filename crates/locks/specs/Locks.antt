@@ -2,7 +2,7 @@
 -- and what a granted request writes.
 -- Assumes nothing.
 use Prim.Native.Nat.{ℕ, _*_, _%_, _/_, _^_, min}
-use mathlib.Core.Bool.{Bool, not, cond}
+use mathlib.Core.Bool.{Bool, cond}
 use mathlib.Core.List.{List, [], _∷_}
 use lib.ListN.{getD, set}
 use lib.Dec.{ltb}
@@ -30,9 +30,11 @@ unfoldable pub markedAll : List ℕ → List ℕ → ℕ → List ℕ
 markedAll table [] id = table
 markedAll table (k ∷ ks) id = markedAll (markedAt table k id) ks id
 
--- refusal 15: "A lock's estimate is not below the client's mark (004: the client's mark must be higher)"
+-- Refusal 15, document 02, No. 2: "The trade's rule, followed in place of 004's, is now that a client's mark equal to the estimate suffices. Refusal
+-- 15 is given only if an estimate is above the client's mark". It replaces document 01's "A lock's estimate is not below the client's mark (004: the
+-- client's mark must be higher)".
 abbrev pub conflict : ℕ → ℕ → Bool
-conflict estimate client = not (ltb estimate client)
+conflict estimate client = ltb client estimate
 
 -- "the first such lock and its estimate are given"
 unfoldable pub firstHeld : List ℕ → List ℕ → ℕ → LockTest

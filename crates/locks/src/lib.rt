@@ -63,11 +63,11 @@ pub fn estimate(table: &[u64], k: u64) -> u64
     lesser(lesser(table[p], table[q]), table[r])
 }
 
-// Whether a lock with this estimate refuses a client's mark.
+// Whether a lock with this estimate refuses a client's mark. A client at the estimate knows all that wrote the lock.
 fn refuses(estimate: u64, client: u64) -> bool
     ensures { λ b. ⌜ b ≡ conflict estimate client ⌝ }
 {
-    !(estimate < client)
+    client < estimate
 }
 
 pub fn first_held(table: &[u64], locks: &[u64], client: u64) -> LockTest

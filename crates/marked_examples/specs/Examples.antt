@@ -1,4 +1,5 @@
--- Document 01, "Marked examples of the definitions": a to j, as one table. `Says` is what a row of it says of the definitions.
+-- Document 01, "Marked examples of the definitions": a to j, as one table, with i as document 02 has it. `Says` is what a row of it says of the
+-- definitions.
 -- Assumes nothing.
 use mathlib.Core.Path.{_≡_}
 use mathlib.Core.Bool.{Bool, true, false}
@@ -14,7 +15,7 @@ use Rattle.cluster.specs.declared.Phase.the-variants.{Open}
 use Rattle.cluster.specs.declared.Server.{Server}
 use Rattle.cluster.specs.declared.Request.{Request}
 use Rattle.cluster.specs.State.{idleServer}
-use Rattle.cluster.specs.Refusals.{requestRows, Verdict, pass, declined, firstOf}
+use Rattle.cluster.specs.Refusals.{requestRows, Verdict, pass, firstOf}
 
 pub data Example : Type 0 where
   -- the replicas' marks, `none` for an absent one, and the vote
@@ -42,8 +43,8 @@ table =
     ∷ places 1 (632 ∷ 765 ∷ 595 ∷ [])
     -- h "Lock 0: 0, 0, 0."
     ∷ places 0 (0 ∷ 0 ∷ 0 ∷ [])
-    -- i "One lock, client mark 0, entries 0: refusal 15."
-    ∷ request 1 0 0 (declined 15 (1 ∷ 0 ∷ []))
+    -- i "One lock, client mark 0, entries 0: refusal 15."; document 02, No. 2: "example i becomes granted"
+    ∷ request 1 0 0 pass
     -- j "Client 6, estimate 5: granted."
     ∷ request 1 5 6 pass
     ∷ []

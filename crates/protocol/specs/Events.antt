@@ -132,7 +132,7 @@ after-issue σ s x e = with-logs σ (append-mark (σ .issued) s) (append-place (
 
 pub record Can-issue (σ : State) (s : ℕ) (x : Tx) (e : ℕ → ℕ) : Type 0 where
   pub phase : σ .phase s ≡ Open
-  pub free : (l : ℕ) → List·Memᴰ l (x .locks) → σ .estimate s l < x .client-mark  -- 15: "A lock's estimate is not below the client's mark"
+  pub free : (l : ℕ) → List·Memᴰ l (x .locks) → σ .estimate s l ≤ x .client-mark  -- 15: "an estimate is above the client's mark"
   -- what the table's writes do to the estimates (crate locks, proofs/NoFalseNegatives): none falls, and the new ID is entered for each lock of x
   pub rises : (l : ℕ) → σ .estimate s l ≤ e l
   pub enters : (l : ℕ) → List·Memᴰ l (x .locks) → suc (σ .issued s) ≤ e l

@@ -14,11 +14,9 @@ use Rattle.octets.proofs.Laws.{length-part}
 use Rattle.storage.specs.Sizes.{dataLimit}
 use Rattle.storage.specs.Places.{recordBytes, validPlace}
 use Rattle.storage.proofs.Records.{read-back}
-use Rattle.locks.specs.declared.LockTest.{LockTest}
-use Rattle.locks.specs.declared.LockTest.the-variants.{Free, Held}
-use Rattle.locks.specs.Locks.{estimateOf, markedAll, firstHeld}
+use Rattle.locks.specs.Locks.{estimateOf, markedAll}
 use Rattle.locks.proofs.Laws.{length-marked-all}
-use Rattle.locks.proofs.NoFalseNegatives.{rises, tops, enters, granted-above}
+use Rattle.locks.proofs.NoFalseNegatives.{rises, tops, enters}
 use Rattle.protocol.specs.State as protocol
 use Rattle.protocol.specs.State.{Tx}
 use Rattle.protocol.specs.Columns.{upd}
@@ -31,8 +29,9 @@ use Rattle.cluster.specs.declared.Server.{Server}
 use Rattle.cluster.specs.declared.Request.{Request}
 use Rattle.cluster.specs.declared.Call.the-variants as call
 use Rattle.cluster.specs.State.{State, serverAt, tableSize, tableAt, withTable}
-use Rattle.cluster.specs.Refusals.{lockLimit, isHeld}
+use Rattle.cluster.specs.Refusals.{lockLimit}
 use Rattle.cluster.specs.Effects.{issuedFields, issuedServer, issueEffect}
+use Rattle.cluster.proofs.Locked.{aware}
 use Rattle.cluster.proofs.Marks.{marks-fit}
 use Rattle.guarantee.specs.History.{History, Logged, issuedAs, told}
 use Rattle.guarantee.proofs.Ties.{rowOf, storyOf, loggedOf, OpenTie, ServerTie, ServersTie, SessionTie, SessionsTie, Sim}
@@ -41,11 +40,6 @@ use Rattle.guarantee.proofs.Passing.{below-four, is-open}
 use Rattle.guarantee.proofs.Sessions.{setAt-same, setAt-other, told-issued}
 use Rattle.guarantee.proofs.Facts.{open-lives}
 use Rattle.guarantee.proofs.Played.{with-call, Before, Played}
-
--- no lock refuses
-free : (t : LockTest) → isHeld t ≡ false → t ≡ Free
-free Free e = refl
-free (Held k m) e = absurd (true≢false e)
 
 module _ (h : Shape) (x : State) (H : History) (σ : protocol.State) (content locks given : List ℕ) (reader s : ℕ) (q : Request)
     (B : Before h x H σ (with-call (call.Issue s q) content locks given reader)) where
@@ -100,7 +94,7 @@ module _ (h : Shape) (x : State) (H : History) (σ : protocol.State) (content lo
   can =
       record {
         phase = row .phase;
-        free = λ k m. omega (arith, row .estimate k, granted-above table locks (q .mark) k (free (firstHeld table locks (q .mark)) (B .passed 15)) m);
+        free = λ k m. omega (arith, row .estimate k, aware h x s q content locks given (B .passes) k m);
         rises = λ k. omega (arith, row .estimate k, rises table locks n k (below k));
         enters = λ k m. omega (arith, next, enters table locks n k size m);
       }

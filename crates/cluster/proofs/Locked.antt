@@ -1,0 +1,111 @@
+-- Number 15 as laws about a whole call. Document 02, No. 2: "Refusal 15 is given only if an estimate is above the client's mark"; document 01: "the first
+-- such lock and its estimate are given". An issue is declined by 15, with a lock and an estimate, exactly if it passes the refusals before 15 and that
+-- lock is the first with an estimate above the client's mark (`locked-exactly`). So where an issue is not declined, its client's mark is at or above the
+-- estimate of each of its locks (`aware`): the guarantee's conclusion on locks rests on that.
+-- The statements come first, then their proofs.
+-- Assumes nothing.
+use mathlib.Core.Path.{_≡_, refl, sym, ap, _∙_}
+use mathlib.Core.Bool.{true, false, true≢false, false≢true}
+use mathlib.Core.Logic.{_↔_}
+use mathlib.Core.List.{List, [], _∷_}
+use Prim.Native.Nat.{ℕ}
+use Rattle.locks.specs.declared.LockTest.{LockTest}
+use Rattle.locks.specs.declared.LockTest.the-variants.{Free, Held}
+use Rattle.locks.specs.Locks.{firstHeld}
+use Rattle.locks.proofs.Conflicts.{NoneAbove, FirstAbove, granted-exactly, held-exactly}
+use Rattle.cluster.specs.declared.Shape.{Shape}
+use Rattle.cluster.specs.declared.Request.{Request}
+use Rattle.cluster.specs.declared.Call.the-variants as call
+use Rattle.cluster.specs.State.{State, tableAt}
+use Rattle.cluster.specs.Replies.{no}
+use Rattle.cluster.specs.Refusals.{Input, Row, isHeld, heldBy, lockRow, rowsOf, pass, firstOf}
+use Rattle.cluster.specs.Effects.{Result}
+use Rattle.cluster.specs.Step.{effect, rest, step}
+use Rattle.cluster.proofs.Rows.{passed}
+use Rattle.cluster.proofs.Numbers.{mentions, until, passes-before, behind, is-given, gives}
+use Rattle.cluster.proofs.Declines.{effect-never-no}
+
+-- ---- the statements
+
+abbrev issue : ℕ → Request → List ℕ → List ℕ → List ℕ → Input
+issue s q content locks given = record { call = call.Issue s q; content = content; locks = locks; given = given }
+
+-- the values are the first lock of the request with an estimate above the client's mark, and that estimate
+abbrev pub GivenFirst : List ℕ → List ℕ → ℕ → List ℕ → Type 0
+GivenFirst table locks client values = (k : ℕ) × (e : ℕ) × (values ≡ k ∷ e ∷ []) × FirstAbove table locks client k e
+
+abbrev pub LockedExactly : Type 0
+LockedExactly =
+    (h : Shape) (x : State) (s : ℕ) (q : Request) (content locks given values : List ℕ)
+    → let p = issue s q content locks given in
+    (step h x p .reply ≡ no 15 values) ↔ ((firstOf (until 15 (rowsOf h x p)) ≡ pass) × GivenFirst (tableAt s (x .tables)) locks (q .mark) values)
+
+abbrev pub Aware : Type 0
+Aware =
+    (h : Shape) (x : State) (s : ℕ) (q : Request) (content locks given : List ℕ)
+    → firstOf (rowsOf h x (issue s q content locks given)) ≡ pass
+    → NoneAbove (tableAt s (x .tables)) locks (q .mark)
+
+-- ---- their proofs
+
+-- what a test of the locks says, by its row
+row-held : (t : LockTest) (values : List ℕ) → isHeld t ≡ true → values ≡ heldBy t → (k : ℕ) × (e : ℕ) × (values ≡ k ∷ e ∷ []) × (t ≡ Held k e)
+row-held Free values b v = absurd (false≢true b)
+row-held (Held k e) values b v = (k, e, v, refl)
+
+row-free : (t : LockTest) → isHeld t ≡ false → t ≡ Free
+row-free Free b = refl
+row-free (Held k e) b = absurd (true≢false b)
+
+module _ (h : Shape) (x : State) (s : ℕ) (q : Request) (content locks given : List ℕ) where
+  abbrev p : Input
+  p = issue s q content locks given
+
+  -- what the locks are judged by
+  abbrev table : List ℕ
+  table = tableAt s (x .tables)
+
+  abbrev client : ℕ
+  client = q .mark
+
+  abbrev found : LockTest
+  found = firstHeld table locks client
+
+  abbrev e : Result
+  e = effect h x p (p .call)
+
+  abbrev ws : List Row
+  ws = until 15 (rowsOf h x p)
+
+  -- 15 is the last row of issue's list
+  at-locks : firstOf ws ≡ pass → step h x p .reply ≡ rest (lockRow found ∷ []) x e .reply
+  unfolding step until
+  at-locks k = ap (λ (z : Result). z .reply) (behind ws (lockRow found ∷ []) x e k)
+
+  passes-to : (values : List ℕ) → step h x p .reply ≡ no 15 values → firstOf ws ≡ pass
+  unfolding step mentions until
+  passes-to values r = passes-before ws x e 15 values refl (lockRow found ∷ []) r
+
+  when-locked : (values : List ℕ) → firstOf ws ≡ pass → step h x p .reply ≡ no 15 values → GivenFirst table locks client values
+  unfolding mentions
+  when-locked values k r =
+      let g = is-given (lockRow found) [] x e refl values (effect-never-no h x p 15 values) (sym (at-locks k) ∙ r) in
+      let w = row-held found values (g .0) (g .1) in
+      (w .0, w .1, w .2, held-exactly table locks client (w .0) (w .1) .0 (w .3))
+
+  then-locked : (values : List ℕ) → firstOf ws ≡ pass → GivenFirst table locks client values → step h x p .reply ≡ no 15 values
+  then-locked values k (l, n, v, f) =
+      let t = held-exactly table locks client l n .1 f in
+      at-locks k ∙ gives (lockRow found) [] x e (ap isHeld t) ∙ ap (no 15) (ap heldBy t ∙ sym v)
+
+  unlocked : firstOf (rowsOf h x p) ≡ pass → NoneAbove table locks client
+  unlocked k = granted-exactly table locks client .0 (row-free found (passed (rowsOf h x p) k 15))
+
+pub locked-exactly : LockedExactly
+locked-exactly h x s q content locks given values = (
+  λ r. let k = passes-to h x s q content locks given values r in (k, when-locked h x s q content locks given values k r),
+  λ (k, g). then-locked h x s q content locks given values k g,
+)
+
+pub aware : Aware
+aware h x s q content locks given = unlocked h x s q content locks given

@@ -20,10 +20,12 @@ pub fn estimate(table: &[u64], lock: u64) -> u64 {
     first.min(second).min(third)
 }
 
-/// The first lock whose estimate is not below the client's mark, and that estimate.
+/// The first lock whose estimate is above the client's mark, and that estimate. A client whose mark is
+/// the estimate has read the last ID that may have written the lock, and that suffices (document 02,
+/// No. 2).
 pub fn first_conflict(table: &[u64], locks: &[u64], client_mark: u64) -> Option<(u64, u64)> {
     let estimates = locks.iter().map(|&lock| (lock, estimate(table, lock)));
-    estimates.into_iter().find(|&(_, estimate)| estimate >= client_mark)
+    estimates.into_iter().find(|&(_, estimate)| estimate > client_mark)
 }
 
 /// Writes the ID in the three places of each lock.

@@ -1,4 +1,5 @@
-//! Document 01's marked examples a to j, each row as it stands there.
+//! Document 01's marked examples a to j, each row as it stands there; but i is granted (document 02,
+//! No. 2).
 
 use twin::cluster::{Answer, Call, Cluster, Phase, Refusal, Request, Shape, Standing};
 use twin::exported::lock_place;
@@ -48,7 +49,18 @@ fn ask(entry: u64, client_mark: u64) -> Result<Answer, Refusal> {
 
 #[test]
 fn i_and_j_locks() {
-    assert_eq!(ask(0, 0), Err(Refusal::Locked { lock: 1, estimate: 0 }));
+    assert_eq!(ask(0, 0), Ok(Answer::Number(7)));
     assert_eq!(ask(5, 6), Ok(Answer::Number(7)));
-    assert_eq!(ask(6, 6), Err(Refusal::Locked { lock: 1, estimate: 6 }));
+}
+
+/// A mark equal to the estimate suffices, one less does not.
+#[test]
+fn edges_of_i_and_j() {
+    for estimate in 1..=6 {
+        let declined = Refusal::Locked { lock: 1, estimate };
+        assert_eq!(ask(estimate, estimate - 1), Err(declined));
+        assert_eq!(ask(estimate, estimate), Ok(Answer::Number(7)));
+    }
+    assert_eq!(ask(7, 6), Err(Refusal::Locked { lock: 1, estimate: 7 }));
+    assert_eq!(ask(u64::MAX, 6), Err(Refusal::Locked { lock: 1, estimate: u64::MAX }));
 }

@@ -31,6 +31,18 @@ fn stored_input_begins_and_ends_so() {
     assert!(stored.len() < 400_000 && !stored.ends_with(b"\n"));
 }
 
+/// A lock on an empty log; then a client that has not read its writer, and one that has.
+#[test]
+fn stored_input_asks_for_a_lock_on_both_sides_of_the_clients_mark() {
+    let stored = stored::bytes("crates/script/stdin");
+    let lines = b"cluster\t3\t4\ntake\t0\t0\nprep\t0\t0\t0\nprep\t0\t1\t0\nopen\t0\t0\n\
+        issue\t0\t0\t0\t9\tAA\t1\nsend\t0\t0\t0\nsend\t0\t1\t0\n\
+        issue\t0\t0\t0\t9\tBB\t1\nissue\t0\t1\t0\t9\tBB\t1\n";
+    assert!(stored.windows(lines.len()).any(|window| window == lines));
+    let replies = b"ok\nok\t1\nok\t0\nok\t0\nok\t0\nok\t1\nok\t0\nok\t1\nno\t15\nok\t2\n";
+    assert_eq!(script::run(lines), replies);
+}
+
 /// Bytes that the proved program reads at once, and that it prints at once.
 const READ: usize = 65_536;
 const PRINTED: usize = 65_536;

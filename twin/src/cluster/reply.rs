@@ -40,7 +40,7 @@ pub enum Refusal {
     Full,
     /// The session has issued as many records as the interval allows.
     CheckpointDue,
-    /// The first lock whose estimate is not below the client's mark.
+    /// The first lock whose estimate is above the client's mark.
     Locked {
         lock: u64,
         estimate: u64,

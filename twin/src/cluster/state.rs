@@ -156,7 +156,7 @@ impl Cluster {
         &self.locks[server * TABLE_MARKS..][..TABLE_MARKS]
     }
 
-    pub(super) fn table_mut(&mut self, server: usize) -> &mut [u64] {
+    pub fn table_mut(&mut self, server: usize) -> &mut [u64] {
         &mut self.locks[server * TABLE_MARKS..][..TABLE_MARKS]
     }
 }

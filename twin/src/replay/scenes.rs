@@ -6,7 +6,7 @@ use std::ops::RangeInclusive;
 use super::recorder::Recorder;
 use crate::cluster::{Call, Entry, Message, Standing};
 use crate::fate::{Fate, Left};
-use crate::locks::{lock_places, TABLE_MARKS};
+use crate::locks::lock_places;
 use crate::medium::{
     self, place_at, seal, DATA_AT, LENGTH_AT, PLACE_BYTES, SLOT_BYTES, SLOT_ZEROS_AT,
 };
@@ -14,7 +14,8 @@ use crate::random::Random;
 use crate::tries::checkpoint::Checkpoint;
 use crate::tries::faults::{faults_of, with_faults, Fault};
 use crate::tries::scene::{
-    all_scenes, record_bytes, set_place, set_promise, Kind, Scene, PLACES, REPLICA, SERVER, SESSION,
+    all_scenes, record_bytes, set_place, set_promise, set_tables, Kind, Scene, CLIENT_MARK, PLACES,
+    REPLICA, SERVER, SESSION,
 };
 
 pub fn replay(recorder: &mut Recorder, random: &mut Random) {
@@ -146,7 +147,7 @@ fn truncation(recorder: &mut Recorder, scene: &Scene, message: Message) {
     recorder.call(&again).expect("a slot is left");
 }
 
-/// Each of a lock's three places alone below the client's mark, and none; locks named twice; of two
+/// Each of a lock's three places alone at the client's mark, and none; locks named twice; of two
 /// locks only the second held.
 fn estimates(recorder: &mut Recorder, scene: &Scene) {
     let [one, other] = [0x0123_4567_89AB_CDEF, 77];
@@ -160,12 +161,13 @@ fn estimates(recorder: &mut Recorder, scene: &Scene) {
     issue(recorder, scene, &first, vec![one, one]);
 }
 
-/// A request whose client's mark is 3, with marks of 2 at these places of the lock table and of 3
-/// at the others.
+/// A request with the client's mark at these places of the server's lock table and one more at the
+/// others.
 fn issue(recorder: &mut Recorder, scene: &Scene, low: &[usize], locks: Vec<u64>) {
     let mut scene = scene.clone();
-    scene.cluster.locks.fill(3);
-    low.iter().for_each(|place| scene.cluster.locks[SERVER * TABLE_MARKS + place] = 2);
+    set_tables(&mut scene.cluster, CLIENT_MARK + 1, CLIENT_MARK);
+    let table = scene.cluster.table_mut(SERVER);
+    low.iter().for_each(|&place| table[place] = CLIENT_MARK);
     scene.request().locks = locks;
     try_scene(recorder, scene);
 }

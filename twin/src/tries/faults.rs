@@ -2,11 +2,13 @@
 
 use crate::cluster::{Message, Phase, Standing, BY_RECEIVER, ORDER};
 use crate::fate::{Fate, Left};
+use crate::locks::lock_places;
 use crate::medium::{mark, place_at, put, PLACE_BYTES, SLOTS_BYTES, WIPED};
 
 use super::scene::Kind::{self, *};
 use super::scene::{
-    record_bytes, set_place, set_promise, Scene, PLACES, REPLICA, SERVER, SESSION, SOURCE,
+    record_bytes, set_place, set_promise, set_tables, Scene, CLIENT_MARK, PLACES, REPLICA, SERVER,
+    SESSION, SOURCE,
 };
 
 pub struct Fault {
@@ -198,7 +200,14 @@ fn requests() -> Vec<Fault> {
         fault(23, "all but one place issued, K = N - 1", &[Issue], |scene| {
             checkpoint(scene, 0, PLACES - 1, PLACES - 1)
         }),
-        fault(15, "all locks at the client's mark", &[Issue], |scene| scene.cluster.locks.fill(3)),
+        fault(15, "all locks one above the client's mark", &[Issue], |scene| {
+            set_tables(&mut scene.cluster, CLIENT_MARK + 1, CLIENT_MARK)
+        }),
+        fault(15, "the last lock alone one above the client's mark", &[Issue], |scene| {
+            let last = *scene.request().locks.last().expect("a lock");
+            let table = scene.cluster.table_mut(SERVER);
+            lock_places(last).into_iter().for_each(|place| table[place] = CLIENT_MARK + 1)
+        }),
     ]
 }
 

@@ -8,6 +8,10 @@ pub const PLACES: u64 = 10;
 pub const SESSION: u64 = 5;
 pub const GENERATION: u32 = 2;
 
+/// The mark of the client that issue's scene asks for, and of its locks' estimates: the highest that
+/// they may have.
+pub const CLIENT_MARK: u64 = 3;
+
 /// The server that makes the call, the replica that gets its message, and the one that a copy
 /// reads.
 pub const SERVER: usize = 1;
@@ -120,6 +124,13 @@ pub fn set_place(medium: &mut [u8], id: u64) {
     put(medium, place_at(id), &record_bytes(id));
 }
 
+/// One mark throughout the lock table of the server that makes the call, and one throughout those of
+/// the others, which it must not read.
+pub fn set_tables(cluster: &mut Cluster, own: u64, others: u64) {
+    cluster.locks.fill(others);
+    cluster.table_mut(SERVER).fill(own);
+}
+
 pub fn record_bytes(id: u64) -> PlaceBytes {
     let (client, generation, partition, sequence, header) = (1, 2, 3, 4, 5);
     Record { id, client, generation, partition, sequence, header, data: b"six" }.encode()
@@ -151,13 +162,21 @@ fn open_cluster(marks: [u64; 3], issued: u64, acknowledged: u64) -> Cluster {
     cluster
 }
 
+/// A server that may issue: all locks stand at the client's mark, and by the other servers' tables
+/// none would be given.
+fn issuing_cluster() -> Cluster {
+    let mut cluster = open_cluster([5, 5, 5], 5, 5);
+    set_tables(&mut cluster, CLIENT_MARK, CLIENT_MARK + 1);
+    cluster
+}
+
 pub fn all_scenes() -> [Scene; 12] {
     let (server, replica, from) = (SERVER as u64, REPLICA as u64, SOURCE as u64);
     let fate = Fate::Answered;
     let message = Message::new(fate);
     let copy = Call::Copy { server, from, to: replica, message };
     let request = Request {
-        client_mark: 3,
+        client_mark: CLIENT_MARK,
         generation: GENERATION,
         data: vec![1; 28],
         locks: vec![1, 2, 3, 4],
@@ -173,7 +192,7 @@ pub fn all_scenes() -> [Scene; 12] {
         (Kind::OpenCopy, open_cluster([3, 4, 4], 4, 4), copy),
         (Kind::Trim, opening([6, 4, 4]), Call::Trim { server, replica, message }),
         (Kind::Open, opening([4, 4, 6]), Call::Open { server, fate }),
-        (Kind::Issue, open_cluster([5, 5, 5], 5, 5), Call::Issue { server, request }),
+        (Kind::Issue, issuing_cluster(), Call::Issue { server, request }),
         (Kind::Send, open_cluster([3, 4, 3], 4, 3), Call::Send { server, replica, message }),
         (Kind::Note, calm(), Call::Note { server, replica, message }),
         (Kind::Read, calm(), Call::Read { server, replica, id: 4, message }),

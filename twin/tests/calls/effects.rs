@@ -281,25 +281,26 @@ fn issue_takes_the_least_of_three_entries() {
             cluster.locks[place] = 9;
         }
         cluster.locks[places[least]] = 2;
-        assert_eq!(ask(&mut cluster, 2, &[77]), Err(Refusal::Locked { lock: 77, estimate: 2 }));
-        assert_eq!(ask(&mut cluster, 3, &[77]), Ok(Answer::Number(6)));
-        // The ID is written over greater marks too.
-        assert!(places.iter().all(|&place| cluster.locks[place] == 6));
-        let written = cluster.locks.iter().filter(|&&mark| mark != 0).count();
-        assert_eq!(written, 3);
+        assert_eq!(ask(&mut cluster, 1, &[77]), Err(Refusal::Locked { lock: 77, estimate: 2 }));
+        let mut written = cluster.locks.clone();
+        assert_eq!(ask(&mut cluster, 2, &[77]), Ok(Answer::Number(6)));
+        // The ID is written over greater marks too, and nowhere else.
+        places.iter().for_each(|&place| written[place] = 6);
+        assert!(cluster.locks == written);
     }
 }
 
 #[test]
 fn issue_judges_all_locks_before_it_writes_any() {
     let mut cluster = cluster_for(Kind::Issue);
-    assert_eq!(ask(&mut cluster, 1, &[5, 5]), Ok(Answer::Number(6)));
+    assert_eq!(ask(&mut cluster, CLIENT_MARK, &[5, 5]), Ok(Answer::Number(6)));
     let mut cluster = cluster_for(Kind::Issue);
     for place in lock_places(8) {
-        cluster.locks[SERVER * TABLE_MARKS + place] = 3;
+        cluster.locks[SERVER * TABLE_MARKS + place] = 4;
     }
     let before = cluster.clone();
-    assert_eq!(ask(&mut cluster, 3, &[5, 8, 8]), Err(Refusal::Locked { lock: 8, estimate: 3 }));
+    let declined = Refusal::Locked { lock: 8, estimate: 4 };
+    assert_eq!(ask(&mut cluster, CLIENT_MARK, &[5, 8, 8]), Err(declined));
     assert!(cluster == before);
 }
 

@@ -73,7 +73,7 @@ fn a_due_checkpoint_is_seen_after_a_full_log_and_before_locks() {
         assert_eq!(declined(&scene), Some(23));
     }
     let due_and_locked = with_pairs([23, 15]);
-    assert_eq!(due_and_locked.len(), 4);
+    assert_eq!(due_and_locked.len(), 4 * 2);
     for mut scene in due_and_locked {
         assert_eq!(declined(&scene), Some(23));
         scene.cluster.shape.interval = PLACES;

@@ -1,10 +1,7 @@
 //! The checkpoint interval K (document 02, No. 1).
 
-use twin::cluster::{
-    Answer, Call, Cluster, Message, Phase, Refusal, Reply, Request, Shape, MOST_PLACES,
-};
-use twin::fate::Fate;
-use twin::medium::DATA_AT;
+use crate::answered::{answered, Answered};
+use twin::cluster::{Answer, Call, Cluster, Phase, Refusal, Reply, Shape, MOST_PLACES};
 use twin::random::Random;
 use twin::tries::caller::Caller;
 use twin::tries::checkpoint::{self, Checkpoint};
@@ -186,67 +183,6 @@ fn list_fills_log(random: &mut Random, shape: Shape) -> bool {
         full |= reply == Err(Refusal::Full);
     }
     full
-}
-
-/// A cluster whose messages are all answered; replies are the value or the number.
-struct Answered(Cluster);
-
-impl Answered {
-    fn fresh(replicas: u64, places: u64, interval: u64) -> Answered {
-        let shape = Shape { replicas, places, interval };
-        Answered(Cluster::fresh(shape).expect("an allowed shape"))
-    }
-
-    fn call(&mut self, call: Call) -> Result<u64, u64> {
-        match self.0.apply(&call) {
-            Ok(Answer::Number(value)) => Ok(value),
-            Ok(other) => panic!("{other:?}"),
-            Err(refusal) => Err(refusal.number()),
-        }
-    }
-
-    fn take(&mut self, server: u64) -> Result<u64, u64> {
-        self.call(Call::Take { server, fate: Fate::Answered })
-    }
-
-    fn prepare(&mut self, server: u64, replica: u64) -> Result<u64, u64> {
-        self.call(Call::Prepare { server, replica, message: answered() })
-    }
-
-    fn open(&mut self, server: u64) -> Result<u64, u64> {
-        self.call(Call::Open { server, fate: Fate::Answered })
-    }
-
-    /// A request with one byte of data by a client at this mark.
-    fn issue(&mut self, server: u64, client_mark: u64, byte: u8) -> Result<u64, u64> {
-        let request = Request { client_mark, header: 9, data: vec![byte], ..Request::default() };
-        self.call(Call::Issue { server, request })
-    }
-
-    /// To replicas 0 and 1.
-    fn send(&mut self, server: u64) -> [Result<u64, u64>; 2] {
-        [0, 1].map(|replica| self.call(Call::Send { server, replica, message: answered() }))
-    }
-
-    /// The byte of data under an ID.
-    fn read(&mut self, server: u64, replica: u64, id: u64) -> u8 {
-        match self.0.read(server, replica, id, &answered()) {
-            Ok(Answer::Bytes(bytes)) => bytes[DATA_AT],
-            other => panic!("{other:?}"),
-        }
-    }
-
-    /// A server opens the next session with replicas 0 and 1, which both stand at this mark.
-    fn recover(&mut self, server: u64, session: u64, mark: u64) {
-        assert_eq!(self.take(server), Ok(session));
-        assert_eq!(self.prepare(server, 0), Ok(mark));
-        assert_eq!(self.prepare(server, 1), Ok(mark));
-        assert_eq!(self.open(server), Ok(mark));
-    }
-}
-
-fn answered() -> Message {
-    Message::new(Fate::Answered)
 }
 
 /// Three replicas, four places, K = 2: two records a session. What was booked before the forced

@@ -1,0 +1,76 @@
+//! A cluster whose messages are all answered.
+
+use twin::cluster::{Answer, Call, Cluster, Message, Reply, Request, Shape};
+use twin::fate::Fate;
+use twin::medium::DATA_AT;
+
+/// Its replies are the value or the number.
+#[derive(Clone)]
+pub struct Answered(pub Cluster);
+
+impl Answered {
+    pub fn fresh(replicas: u64, places: u64, interval: u64) -> Answered {
+        let shape = Shape { replicas, places, interval };
+        Answered(Cluster::fresh(shape).expect("an allowed shape"))
+    }
+
+    pub fn call(&mut self, call: Call) -> Result<u64, u64> {
+        numbers(self.0.apply(&call))
+    }
+
+    pub fn take(&mut self, server: u64) -> Result<u64, u64> {
+        self.call(Call::Take { server, fate: Fate::Answered })
+    }
+
+    pub fn prepare(&mut self, server: u64, replica: u64) -> Result<u64, u64> {
+        self.call(Call::Prepare { server, replica, message: answered() })
+    }
+
+    pub fn open(&mut self, server: u64) -> Result<u64, u64> {
+        self.call(Call::Open { server, fate: Fate::Answered })
+    }
+
+    /// A request with one byte of data by a client at this mark.
+    pub fn issue(&mut self, server: u64, client_mark: u64, byte: u8) -> Result<u64, u64> {
+        numbers(self.ask(server, client_mark, byte, &[]))
+    }
+
+    /// The same with locks, and the reply as it is.
+    pub fn ask(&mut self, server: u64, client_mark: u64, byte: u8, locks: &[u64]) -> Reply {
+        let (data, locks) = (vec![byte], locks.to_vec());
+        self.0.issue(server, &Request { client_mark, header: 9, data, locks, ..Request::default() })
+    }
+
+    /// To replicas 0 and 1.
+    pub fn send(&mut self, server: u64) -> [Result<u64, u64>; 2] {
+        [0, 1].map(|replica| self.call(Call::Send { server, replica, message: answered() }))
+    }
+
+    /// The byte of data under an ID.
+    pub fn read(&mut self, server: u64, replica: u64, id: u64) -> u8 {
+        match self.0.read(server, replica, id, &answered()) {
+            Ok(Answer::Bytes(bytes)) => bytes[DATA_AT],
+            other => panic!("{other:?}"),
+        }
+    }
+
+    /// A server opens the next session with replicas 0 and 1, which both stand at this mark.
+    pub fn recover(&mut self, server: u64, session: u64, mark: u64) {
+        assert_eq!(self.take(server), Ok(session));
+        assert_eq!(self.prepare(server, 0), Ok(mark));
+        assert_eq!(self.prepare(server, 1), Ok(mark));
+        assert_eq!(self.open(server), Ok(mark));
+    }
+}
+
+fn numbers(reply: Reply) -> Result<u64, u64> {
+    match reply {
+        Ok(Answer::Number(value)) => Ok(value),
+        Ok(other) => panic!("{other:?}"),
+        Err(refusal) => Err(refusal.number()),
+    }
+}
+
+pub fn answered() -> Message {
+    Message::new(Fate::Answered)
+}

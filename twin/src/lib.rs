@@ -21,10 +21,9 @@ pub mod script;
 
 pub mod vectors;
 
-pub mod compare;
-
 pub mod tries;
 
+pub mod compare;
 pub mod replay;
 
 pub mod jobs;

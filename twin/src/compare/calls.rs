@@ -9,6 +9,7 @@ use crate::cluster::{Cluster, Phase, Server, Standing};
 use crate::hex;
 use crate::locks::lock_places;
 use crate::random::Random;
+use crate::tries::clients::draw_mark;
 use crate::votes::{decided, quorum};
 
 /// Few, so that requests name the same ones.
@@ -79,7 +80,7 @@ impl Caller {
         let held = record(cluster, server);
         let idle = held.acknowledged == held.issued;
         if idle && !random.chance(4) {
-            return issue(random, held, server);
+            return issue(random, cluster, server);
         }
         let behind: Vec<u64> = members(cluster, server)
             .into_iter()
@@ -125,7 +126,7 @@ impl Caller {
             1 => Line::new("prep").number(server).number(one).fate(fate),
             2 => Line::new("copy").number(server).number(one).number(other).fate(fate),
             3 => Line::new("open").number(server).fate(fate),
-            4 => issue(random, record(cluster, server.min(3)), server),
+            4 => issue(random, cluster, server),
             _ => Line::new("send").number(server).number(one).fate(fate),
         }
     }
@@ -145,14 +146,16 @@ pub fn issue_line(random: &mut Random, cluster: &Cluster) -> Line {
         held.phase == Phase::Open && held.acknowledged == held.issued
     };
     let server = (0..4).find(could).unwrap_or(random.below(4));
-    issue(random, record(cluster, server), server)
+    issue(random, cluster, server)
 }
 
-/// Mostly what only locks can refuse.
-fn issue(random: &mut Random, held: &Server, server: u64) -> Line {
-    let (behind, locks) = draw_locks(random, held);
-    let ahead = u64::from(random.chance(30));
-    let client_mark = held.acknowledged.saturating_sub(behind) + ahead;
+/// Mostly what only locks can refuse. A server that is not there is asked what another would be.
+fn issue(random: &mut Random, cluster: &Cluster, server: u64) -> Line {
+    let there = server.min(3);
+    let held = record(cluster, there);
+    let locks = draw_locks(random);
+    let around = draw_mark(random, cluster, there, &locks);
+    let client_mark = if random.chance(30) { held.acknowledged + 1 } else { around };
     let generation = held.generation + u32::from(random.chance(30));
     let any_word = random.word();
     let header = *random.pick(&[0, 9, u32::MAX, any_word]);
@@ -163,18 +166,16 @@ fn issue(random: &mut Random, held: &Server, server: u64) -> Line {
     locks.into_iter().fold(line, Line::lock)
 }
 
-/// How far the client is behind the acknowledged mark, and its locks: few that many requests name,
-/// any, or crowded ones, which are refused for places that others wrote.
-fn draw_locks(random: &mut Random, held: &Server) -> (u64, Vec<u64>) {
-    let close = *random.pick(&[0, 0, 0, 0, 1, 2]);
-    let anywhere = random.below(held.acknowledged + 1);
+/// Few locks that many requests name, any, or crowded ones, which are refused for places that others
+/// wrote.
+fn draw_locks(random: &mut Random) -> Vec<u64> {
     let count = random.below(5) + 3 * u64::from(random.chance(30));
     let style = random.below(3);
     let mut draw = |lock: fn(&mut Random) -> u64| (0..count).map(|_| lock(random)).collect();
     match style {
-        0 => (close, draw(|random| *random.pick(&LOCKS))),
-        1 => (close, draw(|random| *random.pick(crowded_locks()))),
-        _ => (anywhere, draw(Random::number)),
+        0 => draw(|random| *random.pick(&LOCKS)),
+        1 => draw(|random| *random.pick(crowded_locks())),
+        _ => draw(Random::number),
     }
 }
 

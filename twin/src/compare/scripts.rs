@@ -156,7 +156,7 @@ impl Writer {
         }
         let kind = match *random.pick(malformed::ALL) {
             // Rarely, as a script may have many malformed lines.
-            Malformed::Megabyte if !random.chance(20) => Malformed::Bytes5000,
+            Malformed::Megabyte if !random.chance(6) => Malformed::Bytes5000,
             kind => kind,
         };
         self.malformed.insert(kind);

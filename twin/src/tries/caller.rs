@@ -1,5 +1,6 @@
 //! Draws calls that get somewhere: mostly what the server's phase allows, with fates of every kind.
 
+use super::clients::draw_mark;
 use crate::cluster::{Call, Cluster, Message, Phase, Request, Server, Standing};
 use crate::fate::{Fate, Left};
 use crate::medium::{Slot, PLACE_BYTES};
@@ -59,11 +60,10 @@ impl Caller {
     }
 
     fn open_call(&self, random: &mut Random, cluster: &Cluster, server: u64) -> Call {
-        let record = &cluster.records.servers[server as usize];
         let replica = draw_usable(random, cluster, server);
         let message = self.message(random);
         match random.below(20) {
-            0..=5 => Call::Issue { server, request: draw_request(random, record) },
+            0..=5 => Call::Issue { server, request: draw_request(random, cluster, server) },
             6..=14 => Call::Send { server, replica, message },
             15 | 16 => self.copy(random, cluster, server),
             17 => Call::Note { server, replica, message },
@@ -158,22 +158,24 @@ fn draw_usable(random: &mut Random, cluster: &Cluster, server: u64) -> u64 {
     }
 }
 
-/// Few locks and clients that have read most of the log, so that locks collide and are still
-/// granted.
-fn draw_request(random: &mut Random, record: &Server) -> Request {
-    let behind = *random.pick(&[0, 0, 0, 1, 2]);
-    let ahead = u64::from(random.chance(40));
+/// Few locks, so that they collide, and clients that have read just as much as is asked of them, or a
+/// little less.
+fn draw_request(random: &mut Random, cluster: &Cluster, server: u64) -> Request {
+    let record = &cluster.records.servers[server as usize];
+    let ahead = random.chance(40);
     let length = if random.chance(60) { 29 } else { 1 };
-    let locks = match random.below(3) {
+    let count = match random.below(3) {
         0 => 0,
         _ => random.below(4) + u64::from(random.chance(20)) * 2,
     };
+    let locks: Vec<u64> = (0..count).map(|_| random.below(6)).collect();
+    let around = draw_mark(random, cluster, server, &locks);
     Request {
-        client_mark: record.acknowledged.saturating_sub(behind) + ahead,
+        client_mark: if ahead { record.acknowledged + 1 } else { around },
         generation: record.generation + u32::from(random.chance(40)),
         header: random.below(3) as u32,
         data: random.bytes(length),
-        locks: (0..locks).map(|_| random.below(6)).collect(),
+        locks,
         ..Request::default()
     }
 }

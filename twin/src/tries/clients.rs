@@ -47,9 +47,8 @@ pub fn needed_mark(table: &[u64], locks: &[u64]) -> Option<u64> {
     locks.iter().map(|&lock| estimate(table, lock)).max()
 }
 
-/// Mostly the mark that the client needs, one less or one more; now and then any, or the acknowledged
-/// one, which no lock asks more than unless a state is handed in. None is above that one, since 11
-/// comes first.
+/// Mostly the mark that the client needs, one less or one more, now and then any. None is above the
+/// acknowledged one, since 11 comes first.
 pub fn draw_mark(random: &mut Random, cluster: &Cluster, server: u64, locks: &[u64]) -> u64 {
     let server = server as usize;
     let acknowledged = cluster.records.servers[server].acknowledged;
@@ -57,9 +56,8 @@ pub fn draw_mark(random: &mut Random, cluster: &Cluster, server: u64, locks: &[u
     let mark = match random.below(8) {
         0..=2 => needed,
         3 | 4 => needed.saturating_sub(1),
-        5 => needed.saturating_add(1),
-        6 => random.below(acknowledged + 1),
-        _ => acknowledged,
+        5 | 6 => needed.saturating_add(1),
+        _ => random.below(acknowledged + 1),
     };
     mark.min(acknowledged)
 }

@@ -1,13 +1,17 @@
 //! Random states, handed in whole, and calls on them.
 
+use super::clients::draw_mark;
 use super::scene::record_bytes;
 use crate::cluster::{
     Call, Cluster, Entry, Message, Phase, Request, Server, Shape, Standing, SERVERS,
 };
 use crate::fate::{Fate, Left};
-use crate::locks::TABLE_MARKS;
+use crate::locks::{lock_places, TABLE_MARKS};
 use crate::medium::{medium_bytes, place_at, put, Slot, PLACE_BYTES, SLOT_BYTES};
 use crate::random::Random;
+
+/// The lock whose three entries may differ.
+const LOCK: u64 = 0xFEDC_BA98_7654_3210;
 
 /// Draws states in which most things fit and some do not.
 pub struct Draw<'a> {
@@ -21,7 +25,7 @@ impl Draw<'_> {
         let interval = 1 + self.random.below(self.places);
         let shape = Shape { replicas, places: self.places, interval };
         let media = (0..replicas).flat_map(|_| self.medium()).collect();
-        let locks = vec![self.random.below(3); SERVERS * TABLE_MARKS];
+        let locks = self.tables();
         let mut cluster = Cluster { shape, records: Default::default(), media, locks };
         let register = &mut cluster.records.register;
         register.session = self.session();
@@ -37,6 +41,16 @@ impl Draw<'_> {
             _ => {}
         }
         cluster
+    }
+
+    /// One mark throughout, but at the three places of one lock, in the table of one server.
+    fn tables(&mut self) -> Vec<u64> {
+        let mut tables = vec![self.random.below(3); SERVERS * TABLE_MARKS];
+        let server = self.random.below(SERVERS as u64) as usize;
+        for place in lock_places(LOCK) {
+            tables[server * TABLE_MARKS + place] = self.mark();
+        }
+        tables
     }
 
     fn medium(&mut self) -> Vec<u8> {
@@ -114,7 +128,7 @@ impl Draw<'_> {
             2 => Call::Copy { server, from, to: replica, message },
             3 => Call::Trim { server, replica, message },
             4 => Call::Open { server, fate },
-            5 => Call::Issue { server, request: self.request() },
+            5 => Call::Issue { server, request: self.request(cluster, server) },
             6 => Call::Send { server, replica, message },
             7 => Call::Note { server, replica, message },
             8 => Call::Read { server, replica, id: self.mark(), message },
@@ -123,13 +137,22 @@ impl Draw<'_> {
         }
     }
 
-    fn request(&mut self) -> Request {
+    fn request(&mut self, cluster: &Cluster, server: u64) -> Request {
+        let locks: Vec<u64> = (0..self.random.below(6)).map(|_| self.lock()).collect();
+        let around = draw_mark(self.random, cluster, server % SERVERS as u64, &locks);
         Request {
-            client_mark: self.mark(),
+            client_mark: if self.random.chance(3) { self.mark() } else { around },
             generation: u32::from(self.random.chance(9)),
             data: vec![0; if self.random.chance(9) { 29 } else { 3 }],
-            locks: (0..self.random.below(6)).map(|_| self.random.number()).collect(),
+            locks,
             ..Request::default()
+        }
+    }
+
+    fn lock(&mut self) -> u64 {
+        match self.random.chance(2) {
+            true => LOCK,
+            false => self.random.number(),
         }
     }
 }

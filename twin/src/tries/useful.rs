@@ -2,6 +2,7 @@
 //! interval asks for one, now and then a handover while the old server goes on talking.
 
 use super::caller::{is_spent, Caller};
+use super::clients::draw_mark;
 use crate::cluster::{Call, Cluster, Phase, Request, Server, Standing};
 use crate::random::Random;
 use crate::votes;
@@ -168,21 +169,23 @@ impl Useful<'_> {
         Call::Copy { server, from, to, message: self.caller.message(random) }
     }
 
-    /// Mostly a client that has read all, with few locks, so that locks are granted and refused.
+    /// Few locks, or more of them so that some were never written, and clients that have read just as
+    /// much as is asked of them, or a little less.
     fn request(&self, random: &mut Random) -> Request {
-        let behind = *random.pick(&[0, 0, 0, 0, 1, 2]);
         let length = random.below(29) as usize;
         let data = if random.chance(3) { random.bytes(length) } else { Vec::new() };
-        let locks = if random.chance(2) { random.below(5) } else { 0 };
+        let count = if random.chance(3) { 0 } else { random.below(5) };
+        let kinds = *random.pick(&[3, 40]);
+        let locks: Vec<u64> = (0..count).map(|_| random.below(kinds)).collect();
         Request {
-            client_mark: self.record.acknowledged.saturating_sub(behind),
+            client_mark: draw_mark(random, self.cluster, self.server, &locks),
             client: random.word(),
             generation: self.record.generation,
             partition: random.below(4) as u32,
             sequence: random.below(9) as u32,
             header: random.word(),
             data,
-            locks: (0..locks).map(|_| random.below(40)).collect(),
+            locks,
         }
     }
 }

@@ -1,11 +1,13 @@
 //! What the scripts of the first 200 seeds reach.
 
-use std::collections::BTreeSet;
+use std::collections::{BTreeMap, BTreeSet};
 
+use twin::cluster::{Cluster, SERVERS};
 use twin::compare::counts::{Counts, Kind};
 use twin::compare::scripts::{script, Script};
 use twin::compare::{malformed, pieces, unusual};
-use twin::script::run;
+use twin::script::{run, Program};
+use twin::tries::clients::needed_mark;
 
 fn scripts() -> impl Iterator<Item = Script> {
     (1..=200).map(script)
@@ -85,6 +87,38 @@ fn recoveries() {
         found += lines.zip(replies).filter(recovers).count();
     }
     assert!(found > 200, "{found}");
+}
+
+/// How far the greatest estimate of an issue line's locks lies above the client's mark.
+fn estimate_above_mark(cluster: &Cluster, line: &[u8]) -> Option<i128> {
+    let text = std::str::from_utf8(line).ok()?;
+    let fields: Vec<&str> = text.trim_end().split('\t').collect();
+    let ["issue", server, mark, _, _, _, locks @ ..] = fields.as_slice() else { return None };
+    let server: usize = server.parse().ok().filter(|&server| server < SERVERS)?;
+    let locks: Vec<u64> = locks.iter().map(|lock| lock.parse().ok()).collect::<Option<_>>()?;
+    let needed = needed_mark(cluster.table(server), &locks)?;
+    Some(i128::from(needed) - i128::from(mark.parse::<u64>().ok()?))
+}
+
+/// Requests that locks alone decide about: just declined, just granted, and granted with one more.
+#[test]
+fn clients_around_the_mark_that_locks_ask_for() {
+    let mut met = BTreeMap::new();
+    for script in scripts() {
+        let mut program = Program::default();
+        for line in script.input.split_inclusive(|&byte| byte == b'\n') {
+            let above = program.cluster().and_then(|cluster| estimate_above_mark(cluster, line));
+            let mut reply = Vec::new();
+            program.feed(line, &mut reply);
+            let declined = reply == b"no\t15\n";
+            if let Some(above) = above.filter(|_| declined || reply.starts_with(b"ok\t")) {
+                assert_eq!(declined, above > 0);
+                *met.entry(above).or_insert(0) += 1;
+            }
+        }
+    }
+    println!("{met:?}");
+    assert!((-1..=1).all(|above| met[&above] > 300), "{met:?}");
 }
 
 #[test]

@@ -37,6 +37,7 @@
 
 mod counts;
 mod list;
+mod locks;
 mod random_states;
 mod recorder;
 mod scenes;
@@ -46,7 +47,7 @@ mod texts;
 
 use crate::random::Random;
 
-pub use counts::{Counts, CALLS, FATES, INTERVALS};
+pub use counts::{Counts, CALLS, ESTIMATES, FATES, INTERVALS};
 
 /// The stored run: its lines, what they print, and what it meets.
 pub struct Run {

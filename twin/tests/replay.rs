@@ -1,10 +1,10 @@
 //! The stored run of the replay program is what this implementation gives, and it meets every call,
-//! refusal, fate and kind of interval.
+//! refusal, fate and kind of interval, and locks on both sides of the client's mark.
 
 mod stored;
 
 use twin::cluster::ORDER;
-use twin::replay::{self, CALLS, FATES, INTERVALS};
+use twin::replay::{self, CALLS, ESTIMATES, FATES, INTERVALS};
 
 /// Calls without a message, and those whose message goes to the register.
 const LOCAL: [&str; 3] = ["issue", "stop", "reassign"];
@@ -96,6 +96,16 @@ fn sessions_are_opened_after_the_interval_asks_for_one() {
     let counts = replay::run().counts;
     assert!(counts.refused("issue", 23) > 50);
     assert!(counts.forced() > 20);
+}
+
+/// One way or the other, most of these requests are decided by one.
+#[test]
+fn locks_are_asked_for_around_the_clients_mark() {
+    let counts = replay::run().counts;
+    let met = ESTIMATES.map(|name| counts.estimate(name));
+    let [below, one_below, at, one_above, above] = met;
+    assert!(below > 0 && one_below > 10 && at > 80 && one_above > 30 && above > 10, "{met:?}");
+    assert_eq!(one_above + above, counts.refused("issue", 15));
 }
 
 #[test]

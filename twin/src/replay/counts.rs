@@ -1,4 +1,4 @@
-//! What a run meets: replies of each call, fates, and intervals.
+//! What a run meets: replies of each call, fates, intervals, and locks around the client's mark.
 
 use std::collections::BTreeMap;
 use std::fmt;
@@ -6,6 +6,7 @@ use std::fmt;
 use super::texts::word;
 use crate::cluster::{Answer, Call, Cluster, Refusal, Reply, Shape, ORDER};
 use crate::fate::{Fate, Left};
+use crate::tries::clients::needed_mark;
 
 pub const CALLS: [&str; 11] = [
     "take", "prepare", "copy", "trim", "open", "issue", "send", "note", "read", "stop", "reassign",
@@ -16,6 +17,10 @@ pub const FATES: [&str; 6] = ["answered", "lost", "answer lost", "cut old", "cut
 /// What K can be beside N; "1" and "between" are below N.
 pub const INTERVALS: [&str; 6] = ["0", "1", "between", "N", "N + 1", "above"];
 
+/// Where the greatest estimate of a request's locks lies beside the client's mark. Up to "at" the
+/// request is granted.
+pub const ESTIMATES: [&str; 5] = ["below", "1 below", "at", "1 above", "above"];
+
 #[derive(Default)]
 pub struct Counts {
     /// By call and reply: 0 for ok, the number of a refusal.
@@ -25,6 +30,8 @@ pub struct Counts {
     fates: BTreeMap<(&'static str, &'static str, u64), u64>,
     /// By call and K, where K alone decides about refusal 1.
     intervals: BTreeMap<(&'static str, &'static str), u64>,
+    /// Requests that locks alone decide about.
+    estimates: BTreeMap<&'static str, u64>,
     /// Whether issue was declined with 23 since the last state was handed in or session opened.
     due: bool,
     /// Sessions opened after that.
@@ -32,7 +39,7 @@ pub struct Counts {
 }
 
 impl Counts {
-    /// Adds a call on this cluster, of which only shape and lengths are read.
+    /// Adds a call on this cluster, which is as the call found it.
     pub(super) fn add(&mut self, cluster: &Cluster, call: &Call, reply: &Reply) {
         let word = word(call);
         match reply {
@@ -46,6 +53,9 @@ impl Counts {
         }
         if let Some(name) = interval_name(cluster) {
             *self.intervals.entry((word, name)).or_default() += 1;
+        }
+        if let Some(name) = estimate_name(cluster, call, reply) {
+            *self.estimates.entry(name).or_default() += 1;
         }
         self.add_change(call, reply);
     }
@@ -103,6 +113,11 @@ impl Counts {
         counted.map(|(_, count)| count).sum()
     }
 
+    /// How many requests had their greatest estimate there, and were granted or declined by 15.
+    pub fn estimate(&self, name: &str) -> u64 {
+        self.estimates.get(name).copied().unwrap_or(0)
+    }
+
     /// How many sessions were opened on a cluster where issue had been declined with 23 since the
     /// one before.
     pub fn forced(&self) -> u64 {
@@ -154,7 +169,24 @@ fn interval_name(cluster: &Cluster) -> Option<&'static str> {
     })
 }
 
-/// A table of replies by call, one of fates and one of K by call, and the writes that were cut.
+/// `None` unless the request names a lock and nothing else stands in its way.
+fn estimate_name(cluster: &Cluster, call: &Call, reply: &Reply) -> Option<&'static str> {
+    let (Call::Issue { server, request }, Ok(_) | Err(Refusal::Locked { .. })) = (call, reply)
+    else {
+        return None;
+    };
+    let needed = needed_mark(cluster.table(*server as usize), &request.locks)?;
+    Some(match i128::from(needed) - i128::from(request.client_mark) {
+        ..-1 => "below",
+        -1 => "1 below",
+        0 => "at",
+        1 => "1 above",
+        2.. => "above",
+    })
+}
+
+/// A table of replies by call, one of fates and one of K by call, one of estimates, and the writes that
+/// were cut.
 impl fmt::Display for Counts {
     fn fmt(&self, f: &mut fmt::Formatter<'_>) -> fmt::Result {
         write!(f, "{:9}{:>6}{:>7}", "call", "ok", "silent")?;
@@ -166,6 +198,10 @@ impl fmt::Display for Counts {
         write!(f, "\n\n{:9}", "K")?;
         INTERVALS.iter().try_for_each(|interval| write!(f, "{interval:>12}"))?;
         CALLS.iter().try_for_each(|call| self.write_intervals(f, call))?;
+        write!(f, "\n\n{:9}", "estimate")?;
+        ESTIMATES.iter().try_for_each(|name| write!(f, "{name:>12}"))?;
+        write!(f, "\n{:9}", "issue")?;
+        ESTIMATES.iter().try_for_each(|name| write!(f, "{:>12}", self.estimate(name)))?;
         writeln!(f)?;
         let cuts = &mut FATES[3..].iter();
         cuts.try_for_each(|fate| write!(f, "\n{fate} at writes {:?}", self.writes(fate)))?;

@@ -1,7 +1,7 @@
 //! The list of states and calls of a run.
 
 use super::recorder::Recorder;
-use super::{random_states, scenes, Run};
+use super::{locks, random_states, scenes, Run};
 use crate::cluster::{Call, Cluster, Shape};
 use crate::fate::Fate;
 use crate::random::Random;
@@ -32,6 +32,7 @@ pub fn replay(random: &mut Random) -> Run {
     let mut recorder = Recorder::new();
     bad_lines(&mut recorder);
     any_interval(&mut recorder);
+    locks::list(&mut recorder);
     scenes::replay(&mut recorder, random);
     for (replicas, places, interval) in (0..LISTS).flat_map(|_| SHAPES) {
         list(&mut recorder, random, Shape { replicas, places, interval });

@@ -94,12 +94,13 @@ impl Recorder {
     pub fn call(&mut self, call: &Call) -> Reply {
         let call = self.with_beside(call.clone());
         self.line(&call_line(&call));
+        let before = self.cluster.clone();
         let reply = self.cluster.apply(&call);
         self.keep_slices();
         let [records, media, tables] = sums(&self.cluster);
         let text = reply_text(&reply);
         self.run.output += &format!("{text}\t{records:08X}\t{media:08X}\t{tables:08X}\n");
-        self.run.counts.add(&self.cluster, &call, &reply);
+        self.run.counts.add(&before, &call, &reply);
         reply
     }
 

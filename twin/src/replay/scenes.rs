@@ -3,10 +3,10 @@
 
 use std::ops::RangeInclusive;
 
+use super::locks;
 use super::recorder::Recorder;
 use crate::cluster::{Call, Entry, Message, Standing};
 use crate::fate::{Fate, Left};
-use crate::locks::lock_places;
 use crate::medium::{
     self, place_at, seal, DATA_AT, LENGTH_AT, PLACE_BYTES, SLOT_BYTES, SLOT_ZEROS_AT,
 };
@@ -14,8 +14,7 @@ use crate::random::Random;
 use crate::tries::checkpoint::Checkpoint;
 use crate::tries::faults::{faults_of, with_faults, Fault};
 use crate::tries::scene::{
-    all_scenes, record_bytes, set_place, set_promise, set_tables, Kind, Scene, CLIENT_MARK, PLACES,
-    REPLICA, SERVER, SESSION,
+    all_scenes, record_bytes, set_place, set_promise, Kind, Scene, PLACES, REPLICA, SERVER, SESSION,
 };
 
 pub fn replay(recorder: &mut Recorder, random: &mut Random) {
@@ -38,7 +37,7 @@ fn particular(recorder: &mut Recorder, random: &mut Random, scene: &Scene) {
         Kind::OpeningCopy => joined(recorder, scene),
         Kind::Trim => cut_each(recorder, random, scene, 1..=3),
         Kind::Issue => {
-            estimates(recorder, scene);
+            locks::replay(recorder, random, scene);
             ahead(recorder, scene);
             Checkpoint::all().for_each(|checkpoint| try_scene(recorder, checkpoint.scene()));
         }
@@ -89,7 +88,7 @@ fn cuts(writes: RangeInclusive<u64>) -> impl Iterator<Item = Fate> {
     writes.flat_map(|write| [Left::Old, Left::New, Left::Torn].map(|left| Fate::Cut(write, left)))
 }
 
-fn try_scene(recorder: &mut Recorder, scene: Scene) {
+pub fn try_scene(recorder: &mut Recorder, scene: Scene) {
     recorder.hand_in(scene.cluster);
     // A declined call is wanted too.
     let _ = recorder.call(&scene.call);
@@ -145,31 +144,6 @@ fn truncation(recorder: &mut Recorder, scene: &Scene, message: Message) {
     let (server, replica) = (SERVER as u64, REPLICA as u64);
     let again = Call::Prepare { server, replica, message: Message::new(Fate::Answered) };
     recorder.call(&again).expect("a slot is left");
-}
-
-/// Each of a lock's three places alone at the client's mark, and none; locks named twice; of two
-/// locks only the second held.
-fn estimates(recorder: &mut Recorder, scene: &Scene) {
-    let [one, other] = [0x0123_4567_89AB_CDEF, 77];
-    let first = lock_places(one);
-    let granted = first.map(|place| vec![place]);
-    let refused = [Vec::new(), first.to_vec()];
-    let locks = [vec![one], vec![one], vec![one], vec![one, one], vec![one, other]];
-    for (low, locks) in granted.into_iter().chain(refused).zip(locks) {
-        issue(recorder, scene, &low, locks);
-    }
-    issue(recorder, scene, &first, vec![one, one]);
-}
-
-/// A request with the client's mark at these places of the server's lock table and one more at the
-/// others.
-fn issue(recorder: &mut Recorder, scene: &Scene, low: &[usize], locks: Vec<u64>) {
-    let mut scene = scene.clone();
-    set_tables(&mut scene.cluster, CLIENT_MARK + 1, CLIENT_MARK);
-    let table = scene.cluster.table_mut(SERVER);
-    low.iter().for_each(|&place| table[place] = CLIENT_MARK);
-    scene.request().locks = locks;
-    try_scene(recorder, scene);
 }
 
 /// A client whose mark is issued and not acknowledged yet.

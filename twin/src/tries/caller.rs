@@ -164,11 +164,12 @@ fn draw_request(random: &mut Random, cluster: &Cluster, server: u64) -> Request 
     let record = &cluster.records.servers[server as usize];
     let ahead = random.chance(40);
     let length = if random.chance(60) { 29 } else { 1 };
-    let count = match random.below(3) {
+    let count = match random.below(4) {
         0 => 0,
-        _ => random.below(4) + u64::from(random.chance(20)) * 2,
+        _ => 1 + random.below(3) + u64::from(random.chance(20)) * 2,
     };
-    let locks: Vec<u64> = (0..count).map(|_| random.below(6)).collect();
+    let kinds = *random.pick(&[2, 6]);
+    let locks: Vec<u64> = (0..count).map(|_| random.below(kinds)).collect();
     let around = draw_mark(random, cluster, server, &locks);
     Request {
         client_mark: if ahead { record.acknowledged + 1 } else { around },

@@ -174,8 +174,8 @@ impl Useful<'_> {
     fn request(&self, random: &mut Random) -> Request {
         let length = random.below(29) as usize;
         let data = if random.chance(3) { random.bytes(length) } else { Vec::new() };
-        let count = if random.chance(3) { 0 } else { random.below(5) };
-        let kinds = *random.pick(&[3, 40]);
+        let count = if random.chance(4) { 0 } else { 1 + random.below(4) };
+        let kinds = *random.pick(&[2, 40]);
         let locks: Vec<u64> = (0..count).map(|_| random.below(kinds)).collect();
         Request {
             client_mark: draw_mark(random, self.cluster, self.server, &locks),

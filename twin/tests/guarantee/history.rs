@@ -183,9 +183,9 @@ impl History {
                 );
                 self.check_same_bytes(earlier, later, &pair);
             }
-            for log in &later.logs {
-                self.check_locks(log);
-            }
+        }
+        if let Some([earlier, later]) = self.unaware() {
+            panic!("IDs {earlier} and {later} share a lock");
         }
     }
 
@@ -203,16 +203,32 @@ impl History {
         }
     }
 
-    /// No transaction shares a lock with one above its client's mark and below its own ID.
-    fn check_locks(&self, log: &Log) {
-        for (id, held) in log {
+    /// Two IDs of an opened session's log that break the third conclusion, if there are any.
+    pub fn unaware(&self) -> Option<[u64; 2]> {
+        let logs = self.opened.values().flat_map(|session| &session.logs);
+        logs.into_iter().find_map(|log| self.unaware_in(log))
+    }
+
+    /// No transaction shares a lock with one above its client's mark and below its own ID; otherwise
+    /// the two.
+    fn unaware_in(&self, log: &Log) -> Option<[u64; 2]> {
+        log.iter().find_map(|(&id, held)| {
             let transaction = &self.transactions[held.transaction];
-            for (other_id, other) in log.range(transaction.client_mark + 1..) {
-                let other = &self.transactions[other.transaction];
-                let shares = transaction.locks.iter().any(|lock| other.locks.contains(lock));
-                assert!(other_id >= id || !shares, "IDs {other_id} and {id} share a lock");
-            }
-        }
+            let unread =
+                log.range(transaction.client_mark + 1..).take_while(|(&other, _)| other < id);
+            let shares = |held: &Held| {
+                let other = &self.transactions[held.transaction];
+                transaction.locks.iter().any(|lock| other.locks.contains(lock))
+            };
+            unread.into_iter().find(|(_, held)| shares(held)).map(|(&other, _)| [other, id])
+        })
+    }
+
+    /// The last ID of the log of the server's session that names the lock.
+    pub fn last_writer(&self, server: u64, lock: u64) -> Option<u64> {
+        let log = self.opened.get(&self.session(server))?.logs.first()?;
+        let names = |held: &Held| self.transactions[held.transaction].locks.contains(&lock);
+        log.iter().rfind(|(_, held)| names(held)).map(|(&id, _)| id)
     }
 }
 

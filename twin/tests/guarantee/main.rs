@@ -2,6 +2,7 @@
 //! cut at any write, old servers that go on talking, sessions that the interval ends.
 
 mod history;
+mod lenient;
 
 use std::collections::{BTreeMap, BTreeSet};
 
@@ -21,6 +22,11 @@ struct Met {
     changes: u64,
     acknowledged: u64,
     locked: u64,
+    /// Requests granted to a client whose mark is the very ID that wrote one of their locks last.
+    at_writer: u64,
+    /// Those where an earlier session issued that ID: its locks are not in the table, which was filled
+    /// with the starting mark.
+    at_start: u64,
     cuts: u64,
     /// By number.
     refusals: BTreeMap<u64, u64>,
@@ -37,6 +43,19 @@ impl Met {
             (_, Err(refusal)) => *self.refusals.entry(refusal.number()).or_default() += 1,
             (Call::Issue { request, .. }, _) => self.locked += u64::from(!request.locks.is_empty()),
             _ => self.cuts += u64::from(changed && caller::is_cut(call)),
+        }
+    }
+
+    /// Before the history has the call.
+    fn count_writer(&mut self, history: &History, before: &Cluster, call: &Call, reply: &Reply) {
+        let (Call::Issue { server, request }, Ok(_)) = (call, reply) else {
+            return;
+        };
+        let mark = request.client_mark;
+        let writes = |&lock: &u64| history.last_writer(*server, lock) == Some(mark);
+        if request.locks.iter().any(writes) {
+            self.at_writer += 1;
+            self.at_start += u64::from(mark <= before.records.servers[*server as usize].starting);
         }
     }
 
@@ -81,7 +100,11 @@ fn assert_within_interval(history: &History, interval: u64) {
     }
 }
 
-fn run_list(random: &mut Random, met: &mut Met) {
+/// Makes a call.
+type Apply = fn(&mut Cluster, &Call) -> Reply;
+
+/// A list of calls from a fresh cluster, and what it brought about.
+fn run_list(random: &mut Random, apply: Apply, met: &mut Met) -> (Shape, History) {
     let shape = draw_shape(random);
     let mut cluster = Cluster::fresh(shape).expect("an allowed shape");
     let mut history = History::new(shape.replicas as usize, shape.places as usize);
@@ -96,29 +119,34 @@ fn run_list(random: &mut Random, met: &mut Met) {
             useful::next_call(random, &caller, &cluster)
         };
         let before = cluster.clone();
-        let reply = cluster.apply(&call);
+        let reply = apply(&mut cluster, &call);
         if reply.is_err() {
             assert!(cluster == before, "a declined call changes nothing: {call:?}");
         }
         met.count_call(&call, &reply, cluster.media != before.media);
+        met.count_writer(&history, &before, &call, &reply);
         due.extend(due_session(&history, &before, &call, &reply));
         history.add(&before, &call, &reply, &cluster);
     }
-    history.check();
-    assert_within_interval(&history, shape.interval);
     met.count_list(&history, &due);
+    (shape, history)
 }
 
 #[test]
 fn later_sessions_keep_what_earlier_ones_acknowledged() {
     let mut met = Met::default();
     for seed in 0..LISTS {
-        run_list(&mut Random::new(seed), &mut met);
+        let (shape, history) = run_list(&mut Random::new(seed), Cluster::apply, &mut met);
+        history.check();
+        assert_within_interval(&history, shape.interval);
     }
     println!("{met:?}");
     assert!(met.changes > LISTS / 2);
     assert!(met.acknowledged > 5 * LISTS);
-    assert!(met.locked > LISTS / 2);
+    assert!(met.locked > 2 * LISTS);
+    assert!(met.at_writer > LISTS / 2);
+    assert!(met.at_start > LISTS / 4);
+    assert!(met.refusals[&15] > LISTS);
     assert!(met.cuts > LISTS);
     assert!(met.refusals[&23] > LISTS);
     assert!(met.forced > LISTS / 3);

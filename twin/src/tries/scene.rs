@@ -8,8 +8,7 @@ pub const PLACES: u64 = 10;
 pub const SESSION: u64 = 5;
 pub const GENERATION: u32 = 2;
 
-/// The mark of the client that scene asks for, and of its locks' estimates: the highest that
-/// they may have.
+/// The client's mark in issue's scene. Its locks' estimates are the same, the highest that are granted.
 pub const CLIENT_MARK: u64 = 3;
 
 /// The server that makes the call, the replica that gets its message, and the one that a copy

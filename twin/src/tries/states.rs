@@ -150,9 +150,10 @@ impl Draw<'_> {
     }
 
     fn lock(&mut self) -> u64 {
-        match self.random.chance(2) {
-            true => LOCK,
-            false => self.random.number(),
+        if self.random.chance(2) {
+            LOCK
+        } else {
+            self.random.number()
         }
     }
 }

@@ -3,8 +3,8 @@
 -- again": an ID that issue answers lies at most K above its session's starting mark (`within-interval`). "The script uses K = N": then none is declined
 -- by 23, whatever the state (`never-due`). The statements come first, then their proofs.
 -- Assumes nothing.
-use mathlib.Core.Path.{_≡_, refl, sym, ap, _∙_}
-use mathlib.Core.Bool.{Bool}
+use mathlib.Core.Path.{_≡_, refl}
+use mathlib.Core.Bool.{Bool, true}
 use mathlib.Core.Logic.{_↔_}
 use mathlib.Core.List.{List, [], _∷_}
 use Prim.Native.Nat.{ℕ, _+_, _≤_}
@@ -18,10 +18,10 @@ use Rattle.cluster.specs.State.{State, serverAt}
 use Rattle.cluster.specs.Replies.{ok, no}
 use Rattle.cluster.specs.Refusals.{Input, Row, row, checkpointDue, rowsOf, pass, firstOf}
 use Rattle.cluster.specs.Effects.{Result, issueEffect}
-use Rattle.cluster.specs.Step.{effect, unless, rest, step}
+use Rattle.cluster.specs.Step.{effect, unless, step}
 use Rattle.cluster.proofs.Rows.{passed}
 use Rattle.cluster.proofs.Marks.{marks-fit}
-use Rattle.cluster.proofs.Numbers.{mentions, until, beyond, passes-before, behind, is-given, gives, ok-passes}
+use Rattle.cluster.proofs.Numbers.{mentions, until, beyond, given-exactly, ok-passes}
 use Rattle.cluster.proofs.Declines.{effect-never-no}
 
 -- ---- the statements
@@ -72,34 +72,31 @@ module _ (h : Shape) (x : State) (s : ℕ) (q : Request) (content locks given : 
   abbrev us : List Row
   us = beyond 23 (rowsOf h x p)
 
-  at-due : firstOf ws ≡ pass → step h x p .reply ≡ rest (row 23 due ∷ us) x e .reply
-  unfolding step until beyond
-  at-due k = ap (λ (z : Result). z .reply) (behind ws (row 23 due ∷ us) x e k)
+  by-row : (values : List ℕ) → (step h x p .reply ≡ no 23 values) ↔ ((firstOf ws ≡ pass) × (due ≡ true) × (values ≡ []))
+  unfolding step mentions until beyond
+  by-row values = given-exactly ws (row 23 due) us x e values refl refl (effect-never-no h x p 23 values)
 
-  when-due : (values : List ℕ) → firstOf ws ≡ pass → step h x p .reply ≡ no 23 values → v .start + h .interval ≤ v .issued
-  unfolding mentions beyond
-  when-due values k r =
-      leb-true (v .start + h .interval) (v .issued) (is-given (row 23 due) us x e refl values (effect-never-no h x p 23 values) (sym (at-due k) ∙ r) .0)
+  when-due : (values : List ℕ) → step h x p .reply ≡ no 23 values → v .start + h .interval ≤ v .issued
+  when-due values r = leb-true (v .start + h .interval) (v .issued) (by-row values .0 r .1)
 
   then-due : firstOf ws ≡ pass → v .start + h .interval ≤ v .issued → step h x p .reply ≡ no 23 []
-  then-due k l = at-due k ∙ gives (row 23 due) us x e (le-leb (v .start + h .interval) (v .issued) l)
+  then-due k l = by-row [] .1 (k, le-leb (v .start + h .interval) (v .issued) l, refl)
 
   -- with K = N: issued is at most N and is not N, so it is not N more than anything
   not-due : (values : List ℕ) → h .interval ≡ h .places → step h x p .reply ≡ no 23 values → ⊥
-  unfolding step mentions until beyond
+  unfolding until
   not-due values whole r =
-      let k = passes-before ws x e 23 values refl (row 23 due ∷ us) r in
-      let none = passed ws k in
+      let none = passed ws (by-row values .0 r .0) in
       omega (
         arith,
         whole,
-        when-due values k r,
+        when-due values r,
         marks-fit h (x .records) s (omega (arith, ltb-false 3 s (none 3))) (none 2) .issued,
         eqb-false (v .issued) (h .places) (none 14),
       )
 
 pub due-exactly : DueExactly
-due-exactly h x s q content locks given k = (when-due h x s q content locks given [] k, then-due h x s q content locks given k)
+due-exactly h x s q content locks given k = (when-due h x s q content locks given [], then-due h x s q content locks given k)
 
 pub never-due : NeverDue
 never-due h x s q content locks given = not-due h x s q content locks given

@@ -25,7 +25,7 @@ use Rattle.cluster.specs.Effects.{Result, trimEffect, openEffect}
 use Rattle.cluster.specs.Step.{effect, unless, rest, step}
 use Rattle.cluster.proofs.Rows.{passed}
 use Rattle.cluster.proofs.Marks.{marks-fit}
-use Rattle.cluster.proofs.Numbers.{mentions, behind, is-given, gives, ok-passes}
+use Rattle.cluster.proofs.Numbers.{mentions, given-exactly, ok-passes}
 use Rattle.cluster.proofs.Declines.{effect-never-no}
 
 -- ---- the statement
@@ -79,10 +79,12 @@ size-of h media tables e =
 known-of : (h : Shape) (x : State) (s : ℕ) → markAbove h (x .records) ≡ false → s < 4 → KnownWithin (votesAt (serverAt (x .records) s)) (markAt (serverAt (x .records) s)) (h .replicas) (h .places)
 known-of h x s e l i k q = marks-fit h (x .records) s l e .marks i k
 
--- the reply of a list whose first row is number 8, of a vote that is decided or not
-eight : (us : List Row) (x : State) (e : Result) (b : Bool) → mentions 8 us ≡ false → (e .reply ≡ no 8 [] → ⊥)
-    → (rest (row 8 (not b) ∷ us) x e .reply ≡ no 8 []) ↔ (b ≡ false)
-eight us x e b m never = (λ r. not-true b (is-given (row 8 (not b)) us x e m [] never r .0), λ q. gives (row 8 (not b)) us x e (ap not q))
+-- number 8 of a vote that is decided or not, where the rows before it pass
+eight : (ws us : List Row) (x : State) (e : Result) (b : Bool) → mentions 8 ws ≡ false → mentions 8 us ≡ false → (e .reply ≡ no 8 [] → ⊥)
+    → firstOf ws ≡ pass → (rest (ws ++ (row 8 (not b) ∷ us)) x e .reply ≡ no 8 []) ↔ (b ≡ false)
+eight ws us x e b before after never k =
+    let g = given-exactly ws (row 8 (not b)) us x e [] before after never in
+    (λ r. not-true b (g .0 r .1), λ q. g .1 (k, ap not q, refl))
 
 -- a call that is answered ok was not declined
 ok-reply : (ws : List Row) (x : State) (e : Result) (values : List ℕ) → rest ws x e .reply ≡ ok values → e .reply ≡ ok values
@@ -107,9 +109,9 @@ open-decides h x s f content locks given e =
     let us = row 9 (tooFewClean (h .replicas) v (voteMark (h .replicas) v)) ∷ seen f 22 (sessionDiffers (x .records .register) v) ∷ [] in
     let none = passed ws e in
     let D = deciding (votesAt v) (markAt v) (h .replicas) (h .places) (size-of h _ _ (none 1)) (known-of h x s (none 2) (omega (arith, ltb-false 3 s (none 3)))) in
-    let at : step h x p ≡ rest (row 8 (undecided (h .replicas) v) ∷ us) x (effect h x p (call.Open s f)) = behind ws (row 8 (undecided (h .replicas) v) ∷ us) x (effect h x p (call.Open s f)) e in
     record {
-      undecided = rw at (flipped (eight us x (effect h x p (call.Open s f)) (decided (votesAt v) (markAt v) (h .replicas)) refl (effect-never-no h x p 8 [])) (D .undecided));
+      undecided =
+          flipped (eight ws us x (effect h x p (call.Open s f)) (decided (votesAt v) (markAt v) (h .replicas)) refl refl (effect-never-no h x p 8 []) e) (D .undecided);
       answers = λ d values g q.
           same-values (answered f) (voteMark (h .replicas) v ∷ []) values (ok-reply (rowsOf h x p) x (effect h x p (call.Open s f)) values q)
           ∙ ap (λ (k : ℕ). k ∷ []) (sym (D .only d g));
@@ -124,8 +126,8 @@ trim-decides h x s i f content locks given e =
     let us = row 16 (nothingToTrim (voteMark (h .replicas) v) v i) ∷ receivedAt (h .places) v i (x .media) f in
     let none = passed ws e in
     let D = deciding (votesAt v) (markAt v) (h .replicas) (h .places) (size-of h _ _ (none 1)) (known-of h x s (none 2) (omega (arith, ltb-false 3 s (none 3)))) in
-    let at : step h x p ≡ rest (row 8 (undecided (h .replicas) v) ∷ us) x (effect h x p (call.Trim s i f)) = behind ws (row 8 (undecided (h .replicas) v) ∷ us) x (effect h x p (call.Trim s i f)) e in
     record {
-      undecided = rw at (flipped (eight us x (effect h x p (call.Trim s i f)) (decided (votesAt v) (markAt v) (h .replicas)) refl (effect-never-no h x p 8 [])) (D .undecided));
+      undecided =
+          flipped (eight ws us x (effect h x p (call.Trim s i f)) (decided (votesAt v) (markAt v) (h .replicas)) refl refl (effect-never-no h x p 8 []) e) (D .undecided);
       truncates = λ d g q. rw q (ap (λ (k : ℕ). trimEffect (h .places) k x s i f given) (sym (D .only d g)));
     }

@@ -1,4 +1,4 @@
--- Number 15 as laws about a whole call. Document 02, No. 2: "Refusal 15 is given only if an estimate is above the client's mark"; document 01: "the first
+-- Number 15 as laws about a whole issue. Document 02, No. 2: "Refusal 15 is given only if an estimate is above the client's mark"; document 01: "the first
 -- such lock and its estimate are given". An issue is declined by 15, with a lock and an estimate, exactly if it passes the refusals before 15 and that
 -- lock is the first with an estimate above the client's mark (`locked-exactly`). So where an issue is not declined, its client's mark is at or above the
 -- estimate of each of its locks (`aware`): the guarantee's conclusion on locks rests on that.
@@ -20,9 +20,9 @@ use Rattle.cluster.specs.State.{State, tableAt}
 use Rattle.cluster.specs.Replies.{no}
 use Rattle.cluster.specs.Refusals.{Input, Row, isHeld, heldBy, lockRow, rowsOf, pass, firstOf}
 use Rattle.cluster.specs.Effects.{Result}
-use Rattle.cluster.specs.Step.{effect, rest, step}
+use Rattle.cluster.specs.Step.{effect, step}
 use Rattle.cluster.proofs.Rows.{passed}
-use Rattle.cluster.proofs.Numbers.{mentions, until, passes-before, behind, is-given, gives}
+use Rattle.cluster.proofs.Numbers.{mentions, until, given-exactly}
 use Rattle.cluster.proofs.Declines.{effect-never-no}
 
 -- ---- the statements
@@ -31,8 +31,11 @@ abbrev issue : ℕ → Request → List ℕ → List ℕ → List ℕ → Input
 issue s q content locks given = record { call = call.Issue s q; content = content; locks = locks; given = given }
 
 -- the values are the first lock of the request with an estimate above the client's mark, and that estimate
-abbrev pub GivenFirst : List ℕ → List ℕ → ℕ → List ℕ → Type 0
-GivenFirst table locks client values = (k : ℕ) × (e : ℕ) × (values ≡ k ∷ e ∷ []) × FirstAbove table locks client k e
+pub record GivenFirst (table locks : List ℕ) (client : ℕ) (values : List ℕ) : Type 0 where
+  pub lock : ℕ
+  pub estimate : ℕ
+  pub given : values ≡ lock ∷ estimate ∷ []
+  pub first : FirstAbove table locks client lock estimate
 
 abbrev pub LockedExactly : Type 0
 LockedExactly =
@@ -78,34 +81,29 @@ module _ (h : Shape) (x : State) (s : ℕ) (q : Request) (content locks given : 
   ws = until 15 (rowsOf h x p)
 
   -- 15 is the last row of issue's list
-  at-locks : firstOf ws ≡ pass → step h x p .reply ≡ rest (lockRow found ∷ []) x e .reply
-  unfolding step until
-  at-locks k = ap (λ (z : Result). z .reply) (behind ws (lockRow found ∷ []) x e k)
-
-  passes-to : (values : List ℕ) → step h x p .reply ≡ no 15 values → firstOf ws ≡ pass
+  by-row : (values : List ℕ) → (step h x p .reply ≡ no 15 values) ↔ ((firstOf ws ≡ pass) × (isHeld found ≡ true) × (values ≡ heldBy found))
   unfolding step mentions until
-  passes-to values r = passes-before ws x e 15 values refl (lockRow found ∷ []) r
+  by-row values = given-exactly ws (lockRow found) [] x e values refl refl (effect-never-no h x p 15 values)
 
-  when-locked : (values : List ℕ) → firstOf ws ≡ pass → step h x p .reply ≡ no 15 values → GivenFirst table locks client values
-  unfolding mentions
-  when-locked values k r =
-      let g = is-given (lockRow found) [] x e refl values (effect-never-no h x p 15 values) (sym (at-locks k) ∙ r) in
-      let w = row-held found values (g .0) (g .1) in
-      (w .0, w .1, w .2, held-exactly table locks client (w .0) (w .1) .0 (w .3))
+  first-held : (values : List ℕ) → isHeld found ≡ true → values ≡ heldBy found → GivenFirst table locks client values
+  first-held values b v =
+      let w = row-held found values b v in
+      record { lock = w .0; estimate = w .1; given = w .2; first = held-exactly table locks client (w .0) (w .1) .0 (w .3) }
 
-  then-locked : (values : List ℕ) → firstOf ws ≡ pass → GivenFirst table locks client values → step h x p .reply ≡ no 15 values
-  then-locked values k (l, n, v, f) =
-      let t = held-exactly table locks client l n .1 f in
-      at-locks k ∙ gives (lockRow found) [] x e (ap isHeld t) ∙ ap (no 15) (ap heldBy t ∙ sym v)
+  held-first : (values : List ℕ) → GivenFirst table locks client values → (isHeld found ≡ true) × (values ≡ heldBy found)
+  held-first values g =
+      let t = held-exactly table locks client (g .lock) (g .estimate) .1 (g .first) in
+      (ap isHeld t, g .given ∙ sym (ap heldBy t))
 
   unlocked : firstOf (rowsOf h x p) ≡ pass → NoneAbove table locks client
   unlocked k = granted-exactly table locks client .0 (row-free found (passed (rowsOf h x p) k 15))
 
 pub locked-exactly : LockedExactly
-locked-exactly h x s q content locks given values = (
-  λ r. let k = passes-to h x s q content locks given values r in (k, when-locked h x s q content locks given values k r),
-  λ (k, g). then-locked h x s q content locks given values k g,
-)
+locked-exactly h x s q content locks given values =
+    let row = by-row h x s q content locks given values in (
+      λ r. let g = row .0 r in (g .0, first-held h x s q content locks given values (g .1) (g .2)),
+      λ (k, f). let g = held-first h x s q content locks given values f in row .1 (k, g .0, g .1),
+    )
 
 pub aware : Aware
 aware h x s q content locks given = unlocked h x s q content locks given

@@ -3,6 +3,7 @@
 -- Assumes nothing.
 use mathlib.Core.Path.{_≡_, refl, sym, ap, _∙_}
 use mathlib.Core.Bool.{Bool, true, false, cond, false≢true}
+use mathlib.Core.Logic.{_↔_}
 use mathlib.Core.List.{List, [], _∷_, _++_}
 use Prim.Native.Nat.{ℕ}
 use native.Mathlib.Omega.{arith}
@@ -52,7 +53,7 @@ module _ (ws : List Row) (x : State) (e : Result) (n : ℕ) (values : List ℕ) 
       false≢true (sym unmentioned ∙ declined-mentions ws n vs (d ∙ ap (λ (i : ℕ). declined i vs) same))
 
   -- a number that no row of a list has is not given by it
-  pub other-number : rest ws x e .reply ≡ no n values → e .reply ≡ no n values
+  other-number : rest ws x e .reply ≡ no n values → e .reply ≡ no n values
   unfolding unless
   other-number q = go (firstOf ws) refl q
     where
@@ -61,7 +62,7 @@ module _ (ws : List Row) (x : State) (e : Result) (n : ℕ) (values : List ℕ) 
       go (declined k vs) f q = absurd (not-given k vs f q)
 
   -- where a list that begins with ws gives it, ws passes
-  pub passes-before : (us : List Row) → rest (ws ++ us) x e .reply ≡ no n values → firstOf ws ≡ pass
+  passes-before : (us : List Row) → rest (ws ++ us) x e .reply ≡ no n values → firstOf ws ≡ pass
   unfolding unless andThen
   passes-before us q = go (firstOf ws) refl (rw (firstOf-append ws us) at q)
     where
@@ -69,13 +70,13 @@ module _ (ws : List Row) (x : State) (e : Result) (n : ℕ) (values : List ℕ) 
       go pass f q = refl
       go (declined k vs) f q = absurd (not-given k vs f q)
 
-pub behind : (ws us : List Row) (x : State) (e : Result) → firstOf ws ≡ pass → rest (ws ++ us) x e ≡ rest us x e
+behind : (ws us : List Row) (x : State) (e : Result) → firstOf ws ≡ pass → rest (ws ++ us) x e ≡ rest us x e
 unfolding andThen
 behind ws us x e q = rw (firstOf-append ws us, q)
 
 -- a row that comes first, with a number that none behind it has, and that the effect e does not reply
 module _ (w : Row) (us : List Row) (x : State) (e : Result) (unmentioned : mentions (w .number) us ≡ false) where
-  pub is-given :
+  is-given :
       (values : List ℕ)
       → (e .reply ≡ no (w .number) values → ⊥)
       → rest (w ∷ us) x e .reply ≡ no (w .number) values
@@ -88,9 +89,27 @@ module _ (w : Row) (us : List Row) (x : State) (e : Result) (unmentioned : menti
       go false r = absurd (never (other-number us x e (w .number) values unmentioned r))
 
 -- its number and values are given where its condition holds
-pub gives : (w : Row) (us : List Row) (x : State) (e : Result) → w .holds ≡ true → rest (w ∷ us) x e .reply ≡ no (w .number) (w .values)
+gives : (w : Row) (us : List Row) (x : State) (e : Result) → w .holds ≡ true → rest (w ∷ us) x e .reply ≡ no (w .number) (w .values)
 unfolding unless firstOf
 gives w us x e q = rw q
+
+-- A row with a number that no other row has, and that the effect e does not reply: it is given exactly if the rows before it pass and it holds, and then
+-- with its values.
+pub given-exactly :
+    (ws : List Row) (w : Row) (us : List Row) (x : State) (e : Result) (values : List ℕ)
+    → mentions (w .number) ws ≡ false
+    → mentions (w .number) us ≡ false
+    → (e .reply ≡ no (w .number) values → ⊥)
+    → (rest (ws ++ (w ∷ us)) x e .reply ≡ no (w .number) values) ↔ ((firstOf ws ≡ pass) × (w .holds ≡ true) × (values ≡ w .values))
+given-exactly ws w us x e values before after never =
+    let at : firstOf ws ≡ pass → rest (ws ++ (w ∷ us)) x e .reply ≡ rest (w ∷ us) x e .reply =
+    λ k. ap (λ (z : Result). z .reply) (behind ws (w ∷ us) x e k) in (
+      λ r.
+          let k = passes-before ws x e (w .number) values before (w ∷ us) r in
+          let g = is-given w us x e after values never (sym (at k) ∙ r) in
+          (k, g .0, g .1),
+      λ (k, b, v). at k ∙ gives w us x e b ∙ ap (no (w .number)) (sym v),
+    )
 
 -- a call that is answered ok was not declined
 pub ok-passes : (ws : List Row) (x : State) (e : Result) (values : List ℕ) → rest ws x e .reply ≡ ok values → firstOf ws ≡ pass

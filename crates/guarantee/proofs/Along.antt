@@ -1,13 +1,16 @@
--- Along a list of calls: each is declined and changes nothing, or is a list of events. So every list of calls is one.
+-- Along a list of calls: each is declined and changes nothing, or is a list of events. So every list of calls is one, and what is shown of the protocol
+-- holds after every list from a fresh cluster (`from-fresh`).
 -- Assumes nothing.
 use mathlib.Core.Path.{_≡_, refl}
 use mathlib.Core.Logic.{_⊎_, inl, inr}
 use mathlib.Core.Bool.{Bool, true, false, cond}
 use mathlib.Core.List.{List, [], _∷_}
 use Prim.Native.Nat.{ℕ}
+use Rattle.quorum.specs.Vote.{quorum}
 use Rattle.protocol.specs.State as protocol
 use Rattle.protocol.specs.Events.{Steps, _▸▸_}
 use Rattle.protocol.proofs.Invariant.{Inv}
+use Rattle.protocol.proofs.Fresh.{fresh-inv}
 use Rattle.protocol.proofs.Keeps.{steps-inv}
 use Rattle.cluster.specs.declared.Shape.{Shape}
 use Rattle.cluster.specs.declared.Call.{Call}
@@ -17,10 +20,12 @@ use Rattle.cluster.specs.Refusals.{Input}
 use Rattle.cluster.specs.Replies.{ok, silent}
 use Rattle.cluster.specs.Step.{effect}
 use Rattle.cluster.proofs.Declines.{isAnswered, declines}
-use Rattle.guarantee.specs.History.{Element, History, told, heard, counted, Moment, next, along}
+use Rattle.guarantee.specs.History.{Element, History, told, heard, counted, Moment, next, beginning, along}
 use Rattle.guarantee.specs.Guarantee.{InRange, Covered, CoveredAll}
 use Rattle.guarantee.proofs.Ties.{Sim, Goes}
 use Rattle.guarantee.proofs.Passing.{Passes, step-passes, Refused, judged, passed}
+use Rattle.guarantee.proofs.Facts.{quorate}
+use Rattle.guarantee.proofs.Fresh.{fresh-tie}
 use Rattle.guarantee.proofs.Played.{with-call, Before, Played}
 use Rattle.guarantee.proofs.calls.Prepare.{prepare-played}
 use Rattle.guarantee.proofs.calls.Copy.{copy-played}
@@ -99,3 +104,18 @@ all-calls h range [] m ρ σ r I S a = (σ, r, S)
 all-calls h range (e ∷ es) m ρ σ r I S a =
     let w = one-call h m e range σ S (steps-inv r I) (a .0) in
     all-calls h range es (next h m e) ρ (w .0) (r ▸▸ w .1) I (w .2) (a .1)
+
+-- after a list of calls from a fresh cluster: a state of the protocol that a list of events from its fresh one leaves, with the invariant and the tie
+pub record FromFresh (h : Shape) (m : Moment) : Type 0 where
+  pub state : protocol.State
+  pub steps : Steps (protocol.fresh (h .replicas) (quorum (h .replicas))) state
+  pub inv : Inv state
+  pub sim : Sim h (m .state) (m .history) state
+
+pub from-fresh : (h : Shape) → InRange h → (es : List Element) → CoveredAll h (beginning h) es → FromFresh h (along h (beginning h) es)
+from-fresh h range es a =
+    let R = h .replicas in
+    let q = quorate h range in
+    let I = fresh-inv R (quorum R) (q .0) (q .1) in
+    let w = all-calls h range es (beginning h) (protocol.fresh R (quorum R)) _ Steps.none I (fresh-tie h range) a in
+    record { state = w .0; steps = w .1; inv = steps-inv (w .1) I; sim = w .2 }

@@ -7,11 +7,7 @@ use mathlib.Core.Path.{_≡_, ap, _∙_}
 use mathlib.Core.List.{List, _∷_}
 use Prim.Native.Nat.{ℕ, _+_, _≤_, _<_}
 use native.Mathlib.Omega.{arith}
-use Rattle.quorum.specs.Vote.{quorum}
 use Rattle.protocol.specs.State as protocol
-use Rattle.protocol.specs.Events.{Steps}
-use Rattle.protocol.proofs.Fresh.{fresh-inv}
-use Rattle.protocol.proofs.Keeps.{steps-inv}
 use Rattle.protocol.proofs.Invariant.{Inv}
 use Rattle.cluster.specs.declared.Shape.{Shape}
 use Rattle.cluster.specs.declared.Request.{Request}
@@ -26,10 +22,9 @@ use Rattle.cluster.proofs.Checkpoint.{within-interval}
 use Rattle.guarantee.specs.History.{Element, History, beginning, along}
 use Rattle.guarantee.specs.Guarantee.{InRange, CoveredAll}
 use Rattle.guarantee.proofs.Ties.{Sim}
-use Rattle.guarantee.proofs.Facts.{quorate, open-lives}
+use Rattle.guarantee.proofs.Facts.{open-lives}
 use Rattle.guarantee.proofs.Passing.{below-four, passed, is-open}
-use Rattle.guarantee.proofs.Fresh.{fresh-tie}
-use Rattle.guarantee.proofs.Along.{all-calls}
+use Rattle.guarantee.proofs.Along.{from-fresh}
 
 -- ================ the statement
 
@@ -67,9 +62,4 @@ module _ (h : Shape) (x : State) (H : History) (σ : protocol.State) (S : Sim h 
       )
 
 pub interval : Interval
-interval h range es a =
-    let R = h .replicas in
-    let Q = quorate h range in
-    let I = fresh-inv R (quorum R) (Q .0) (Q .1) in
-    let w = all-calls h range es (beginning h) (protocol.fresh R (quorum R)) _ Steps.none I (fresh-tie h range) a in
-    within h _ _ (w .0) (w .2) (steps-inv (w .1) I)
+interval h range es a = let w = from-fresh h range es a in within h _ _ (w .state) (w .sim) (w .inv)

@@ -9,11 +9,7 @@ use mathlib.Core.Option.{none}
 use Prim.Native.Nat.{ℕ, _+_}
 use native.Mathlib.Omega.{arith}
 use Rattle.fate.specs.declared.Fate.{Fate}
-use Rattle.quorum.specs.Vote.{quorum}
 use Rattle.protocol.specs.State as protocol
-use Rattle.protocol.specs.Events.{Steps}
-use Rattle.protocol.proofs.Fresh.{fresh-inv}
-use Rattle.protocol.proofs.Keeps.{steps-inv}
 use Rattle.protocol.proofs.Invariant.{Inv}
 use Rattle.protocol.proofs.Facts.{unopened}
 use Rattle.cluster.specs.declared.Shape.{Shape}
@@ -28,11 +24,10 @@ use Rattle.guarantee.specs.Registers.{changed}
 use Rattle.guarantee.specs.History.{Element, History, beginning, along, unopened as new-session}
 use Rattle.guarantee.specs.Guarantee.{InRange, CoveredAll}
 use Rattle.guarantee.proofs.Ties.{Sim}
-use Rattle.guarantee.proofs.Facts.{quorate, opening-lives, open-lives}
+use Rattle.guarantee.proofs.Facts.{opening-lives, open-lives}
 use Rattle.guarantee.proofs.Registers.{unchanged}
 use Rattle.guarantee.proofs.Passing.{below-four, Passes, step-passes, Refused, judged, passed, is-opening, is-open}
-use Rattle.guarantee.proofs.Fresh.{fresh-tie}
-use Rattle.guarantee.proofs.Along.{all-calls}
+use Rattle.guarantee.proofs.Along.{from-fresh}
 
 -- ================ the statement
 
@@ -123,9 +118,4 @@ new h x H σ S I p =
     as-issue s n q vs e r = rw (← e) r
 
 pub once : Once
-once h range es a p =
-    let R = h .replicas in
-    let Q = quorate h range in
-    let I = fresh-inv R (quorum R) (Q .0) (Q .1) in
-    let w = all-calls h range es (beginning h) (protocol.fresh R (quorum R)) _ Steps.none I (fresh-tie h range) a in
-    new h _ _ (w .0) (w .2) (steps-inv (w .1) I) p
+once h range es a p = let w = from-fresh h range es a in new h _ _ (w .state) (w .sim) (w .inv) p

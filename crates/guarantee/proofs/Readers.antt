@@ -1,24 +1,21 @@
--- A CLIENT THAT HAS READ EVERYTHING IS NOT DECLINED BY 15: after every list of calls, whichever locks an issue names, it is not declined by 15 if its
--- client's mark is not below what the server has acknowledged: `readers`. Document 02, No. 2: "A depot that has consumed every transaction is still
--- turned down on a lock whose last writer it has seen, and on an empty log no lock can be had." (On a table that is handed in, and that no list of calls
--- leaves, anything may stand.)
+-- WHO IS DECLINED BY 15 HAS SOMETHING LEFT TO READ: after every list of calls, the estimate that an issue is given with 15 lies above its client's mark,
+-- and the server has acknowledged that ID. So a client that has read all that is acknowledged is not declined by 15, whichever locks it names: `readers`.
+-- This ends what document 02, No. 2, complains of: "A depot that has consumed every transaction is still turned down on a lock whose last writer it has
+-- seen, and on an empty log no lock can be had." A table that is handed in, and that no list of calls leaves, may hold anything.
 -- The statement comes first, then its proof.
 -- Assumes nothing.
 use mathlib.Core.Path.{_≡_}
-use mathlib.Core.List.{List}
-use Prim.Native.Nat.{ℕ, _≤_}
+use mathlib.Core.List.{List, [], _∷_}
+use Prim.Native.Nat.{ℕ, _≤_, _<_}
 use native.Mathlib.Omega.{arith}
 use borrow.Author.Tests.{ltb-false}
-use Rattle.quorum.specs.Vote.{quorum}
 use Rattle.protocol.specs.State as protocol
-use Rattle.protocol.specs.Events.{Steps}
-use Rattle.protocol.proofs.Fresh.{fresh-inv}
 use Rattle.cluster.specs.declared.Shape.{Shape}
 use Rattle.cluster.specs.declared.Request.{Request}
 use Rattle.cluster.specs.declared.Call.the-variants as call
 use Rattle.cluster.specs.State.{State, serverAt}
 use Rattle.cluster.specs.Refusals.{Input, rowsOf}
-use Rattle.cluster.specs.Replies.{no}
+use Rattle.cluster.specs.Replies.{Reply, no}
 use Rattle.cluster.specs.Step.{step}
 use Rattle.cluster.proofs.Rows.{passed}
 use Rattle.cluster.proofs.Numbers.{until}
@@ -26,51 +23,51 @@ use Rattle.cluster.proofs.Locked.{locked-exactly}
 use Rattle.guarantee.specs.History.{Element, History, beginning, along}
 use Rattle.guarantee.specs.Guarantee.{InRange, CoveredAll}
 use Rattle.guarantee.proofs.Ties.{Sim}
-use Rattle.guarantee.proofs.Facts.{quorate}
 use Rattle.guarantee.proofs.Passing.{below-four, is-open}
-use Rattle.guarantee.proofs.Fresh.{fresh-tie}
-use Rattle.guarantee.proofs.Along.{all-calls}
+use Rattle.guarantee.proofs.Along.{from-fresh}
 
 -- ================ the statement
 
--- in state x no issue of a client that has read all that its server acknowledged is declined by 15
-abbrev pub Served : Shape → State → Type 0
-Served h x =
-    (s : ℕ) (q : Request) (content locks given values : List ℕ)
-    → serverAt (x .records) s .acked ≤ q .mark
-    → ¬ (step h x (record { call = call.Issue s q; content = content; locks = locks; given = given }) .reply ≡ no 15 values)
+-- what an issue to server s replies in state x
+abbrev issued : Shape → State → ℕ → Request → (content locks given : List ℕ) → Reply
+issued h x s q content locks given = step h x (record { call = call.Issue s q; content = content; locks = locks; given = given }) .reply
 
-abbrev pub Readers : Type 0
-Readers = (h : Shape) → InRange h → (es : List Element) → CoveredAll h (beginning h) es → Served h (along h (beginning h) es .state)
+pub record Readers (h : Shape) (x : State) : Type 0 where
+  pub unread : (s : ℕ) (q : Request) (content locks given : List ℕ) (k e : ℕ) → issued h x s q content locks given ≡ no 15 (k ∷ e ∷ [])
+      → (q .mark < e) × (e ≤ serverAt (x .records) s .acked)
+  pub granted : (s : ℕ) (q : Request) (content locks given values : List ℕ) → serverAt (x .records) s .acked ≤ q .mark
+      → ¬ (issued h x s q content locks given ≡ no 15 values)
+
+abbrev pub Statement : Type 0
+Statement = (h : Shape) → InRange h → (es : List Element) → CoveredAll h (beginning h) es → Readers h (along h (beginning h) es .state)
 
 -- ================ its proof
 
--- no estimate is above what is issued, and 13 comes before 15: all that is issued is acknowledged
-served : (h : Shape) (x : State) (H : History) (σ : protocol.State) → Sim h x H σ → Served h x
+-- The bounds of what is given: no estimate is above what is issued, and 13 comes before 15, so that all that is issued is acknowledged.
+bounds : (h : Shape) (x : State) (H : History) (σ : protocol.State) → Sim h x H σ → (s : ℕ) (q : Request) (content locks given values : List ℕ)
+    → issued h x s q content locks given ≡ no 15 values
+    → (k : ℕ) × (e : ℕ) × (values ≡ k ∷ e ∷ []) × (q .mark < e) × (e ≤ serverAt (x .records) s .acked)
 unfolding until
-served h x H σ S s q content locks given values read r =
+bounds h x H σ S s q content locks given values r =
     let p : Input = record { call = call.Issue s q; content = content; locks = locks; given = given } in
     let d = locked-exactly h x s q content locks given values .0 r in
     let none = passed (until 15 (rowsOf h x p)) (d .0) in
     let v = serverAt (x .records) s in
     let row = S .servers .each s (below-four s (none 3)) .serving (is-open (v .phase) (none 5)) in
-    let lock = d .1 .0 in
-    let first = d .1 .3 in
-    omega (
-      arith,
-      read,
-      ltb-false (v .acked) (v .issued) (none 13),
-      row .issued,
-      row .estimate lock,
-      row .entered lock,
-      first .estimate,
-      first .above,
-    )
+    let k = d .1 .lock in
+    let first = d .1 .first in
+    let all = ltb-false (v .acked) (v .issued) (none 13) in
+    (k, d .1 .estimate, d .1 .given, first .above, omega (arith, first .estimate, row .estimate k, row .entered k, row .issued, all))
 
-pub readers : Readers
+pub readers : Statement
 readers h range es a =
-    let R = h .replicas in
-    let Q = quorate h range in
-    let I = fresh-inv R (quorum R) (Q .0) (Q .1) in
-    let w = all-calls h range es (beginning h) (protocol.fresh R (quorum R)) _ Steps.none I (fresh-tie h range) a in
-    served h _ _ (w .0) (w .2)
+    let w = from-fresh h range es a in
+    record {
+      unread = λ s q content locks given k e r.
+          let b = bounds h _ _ (w .state) (w .sim) s q content locks given (k ∷ e ∷ []) r in
+          let same : e ≡ b .1 = cc (b .2) in
+          (omega (arith, same, b .3), omega (arith, same, b .4));
+      granted = λ s q content locks given values read r.
+          let b = bounds h _ _ (w .state) (w .sim) s q content locks given values r in
+          omega (arith, read, b .3, b .4);
+    }

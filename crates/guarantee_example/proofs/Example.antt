@@ -122,6 +122,6 @@ third-2 = also 3 third (lit≤ tt) (lit≤ tt) (shown .third-1)
 pub apart : ¬ Share (third .transaction) (second .transaction)
 apart = kept .apart 1 3 2 third second (shown .opened-1) (shown .third-1) (shown .second-1) (lit< tt) (lit< tt)
 
--- ID 1 does not stand above the mark of ID 2's client, which is just ID 1: they share lock 7
+-- It says nothing of an ID at a client's mark, which the client has read: IDs 1 and 2 stand in the same log and share lock 7
 pub shared : Share (second .transaction) (first .transaction) × (second .transaction .mark ≡ 1)
 shared = ((7, List·Memᴰ·head refl, List·Memᴰ·head refl), refl)

@@ -36,6 +36,13 @@ HeldExactly = (table ks : List ℕ) (client k e : ℕ) → (firstHeld table ks c
 
 -- ---- their proofs
 
+-- the comparison: all that is used of it
+conflict-above : (estimate client : ℕ) → (conflict estimate client ≡ true) ↔ (client < estimate)
+conflict-above estimate client = (ltb-true client estimate, lt-ltb client estimate)
+
+no-conflict-above : (estimate client : ℕ) → (conflict estimate client ≡ false) ↔ (estimate ≤ client)
+no-conflict-above estimate client = (ltb-false client estimate, le-ltb client estimate)
+
 module _ (table : List ℕ) (client : ℕ) where
   passes : (ks : List ℕ) → firstHeld table ks client ≡ Free → NoneAbove table ks client
   unfolding firstHeld
@@ -48,12 +55,12 @@ module _ (table : List ℕ) (client : ℕ) where
           → (firstHeld table ks client ≡ Free → NoneAbove table ks client)
           → estimateOf table k ≤ client
       go true c more = absurd (let g = rw c at f in let w : _≡_ {A = ℕ} 0 1 = cc in omega arith)
-      go false c more = ⊎-elim (λ (q : k ≡ h). rw q (ltb-false client (estimateOf table h) c)) (more (rw c at f) k) (List·Memᴰ·cases-cons m)
+      go false c more = ⊎-elim (λ (q : k ≡ h). rw q (no-conflict-above (estimateOf table h) client .0 c)) (more (rw c at f) k) (List·Memᴰ·cases-cons m)
 
   grants : (ks : List ℕ) → NoneAbove table ks client → firstHeld table ks client ≡ Free
   unfolding firstHeld
   grants [] n = refl
-  grants (h ∷ ks) n = rw (le-ltb client (estimateOf table h) (n h (List·Memᴰ·head refl))) (grants ks (λ k m. n k (List·Memᴰ·tail m)))
+  grants (h ∷ ks) n = rw (no-conflict-above (estimateOf table h) client .1 (n h (List·Memᴰ·head refl))) (grants ks (λ k m. n k (List·Memᴰ·tail m)))
 
   refuses : (ks : List ℕ) (k e : ℕ) → firstHeld table ks client ≡ Held k e → FirstAbove table ks client k e
   unfolding firstHeld
@@ -75,7 +82,7 @@ module _ (table : List ℕ) (client : ℕ) where
             request = ap (λ (j : ℕ). j ∷ ks) lock;
             passed = λ j m. absurd (List·Memᴰ·not-nil m);
             estimate = sym estimate ∙ ap (estimateOf table) lock;
-            above = omega (arith, estimate, ltb-true client (estimateOf table h) c);
+            above = omega (arith, estimate, conflict-above (estimateOf table h) client .0 c);
           }
       go false c more =
           let r = more (rw c at f) in
@@ -83,7 +90,7 @@ module _ (table : List ℕ) (client : ℕ) where
             before = h ∷ r .before;
             behind = r .behind;
             request = ap (λ (js : List ℕ). h ∷ js) (r .request);
-            passed = λ j m. ⊎-elim (λ (q : j ≡ h). rw q (ltb-false client (estimateOf table h) c)) (r .passed j) (List·Memᴰ·cases-cons m);
+            passed = λ j m. ⊎-elim (λ (q : j ≡ h). rw q (no-conflict-above (estimateOf table h) client .0 c)) (r .passed j) (List·Memᴰ·cases-cons m);
             estimate = r .estimate;
             above = r .above;
           }
@@ -94,9 +101,9 @@ module _ (table : List ℕ) (client : ℕ) where
       → client < estimateOf table k
       → firstHeld table (before ++ (k ∷ behind)) client ≡ Held k (estimateOf table k)
   unfolding firstHeld
-  finds [] behind k n l = rw (lt-ltb client (estimateOf table k) l)
+  finds [] behind k n l = rw (conflict-above (estimateOf table k) client .1 l)
   finds (h ∷ before) behind k n l =
-      rw (le-ltb client (estimateOf table h) (n h (List·Memᴰ·head refl))) (finds before behind k (λ j m. n j (List·Memᴰ·tail m)) l)
+      rw (no-conflict-above (estimateOf table h) client .1 (n h (List·Memᴰ·head refl))) (finds before behind k (λ j m. n j (List·Memᴰ·tail m)) l)
 
 pub granted-exactly : GrantedExactly
 granted-exactly table ks client = (passes table client ks, grants table client ks)

@@ -1,8 +1,7 @@
--- No false negatives (Waltz Internals, "Optimistic Locking": "There will be no false-negative."): after any list of granted issues on a table filled
--- with a starting mark, a lock's estimate is at least the last ID that wrote it and at least the starting mark, whatever other locks share its
--- places. So a request is granted only to a client whose mark is at or above every ID that wrote one of its locks: "Two transactions that share a
--- lock must still never both stand in one opened session's log with the later one's client unaware of the earlier" (document 02, No. 2, which
--- replaces 004's "If the estimate is smaller than the transaction's high-water mark, the transaction is safe").
+-- No false negatives (document 004, Waltz Internals, "Optimistic Locking": "If the estimate is smaller than the transaction's high-water mark, the
+-- transaction is safe. There will be no false-negative."; by document 02, No. 2, an equal one is safe too): after any list of granted issues on a table
+-- filled with a starting mark, a lock's estimate is at least the last ID that wrote it and at least the starting mark, whatever other locks share its
+-- places. So a request is granted only to a client whose mark is at or above every ID that wrote one of its locks.
 -- The statement comes first, then the steps, one issue each, then the theorem `no-false-negatives`.
 -- Assumes nothing.
 use mathlib.Core.Path.{_≡_, ap, _∙_}

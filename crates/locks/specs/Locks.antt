@@ -1,4 +1,4 @@
--- Locks (document 01, "issue" and refusal 15): a lock's places in a server's table of marks, its estimate, which locks refuse a request,
+-- Locks (document 01, "issue" and refusal 15; document 02, No. 2): a lock's places in a server's table of marks, its estimate, which locks refuse a request,
 -- and what a granted request writes.
 -- Assumes nothing.
 use Prim.Native.Nat.{ℕ, _*_, _%_, _/_, _^_, min}

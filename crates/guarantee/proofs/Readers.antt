@@ -29,26 +29,33 @@ use Rattle.guarantee.proofs.Along.{from-fresh}
 -- ================ the statement
 
 -- what an issue to server s replies in state x
-abbrev issued : Shape → State → ℕ → Request → (content locks given : List ℕ) → Reply
-issued h x s q content locks given = step h x (record { call = call.Issue s q; content = content; locks = locks; given = given }) .reply
+abbrev replied : Shape → State → ℕ → Request → (content locks given : List ℕ) → Reply
+replied h x s q content locks given = step h x (record { call = call.Issue s q; content = content; locks = locks; given = given }) .reply
 
-pub record Readers (h : Shape) (x : State) : Type 0 where
-  pub unread : (s : ℕ) (q : Request) (content locks given : List ℕ) (k e : ℕ) → issued h x s q content locks given ≡ no 15 (k ∷ e ∷ [])
-      → (q .mark < e) × (e ≤ serverAt (x .records) s .acked)
-  pub granted : (s : ℕ) (q : Request) (content locks given values : List ℕ) → serverAt (x .records) s .acked ≤ q .mark
-      → ¬ (issued h x s q content locks given ≡ no 15 values)
+-- what is given with 15 is a lock, and an ID above the client's mark that the server has acknowledged
+abbrev pub Unread : Shape → State → Type 0
+Unread h x =
+    (s : ℕ) (q : Request) (content locks given values : List ℕ)
+    → replied h x s q content locks given ≡ no 15 values
+    → (k : ℕ) × (e : ℕ) × (values ≡ k ∷ e ∷ []) × (q .mark < e) × (e ≤ serverAt (x .records) s .acked)
 
-abbrev pub Statement : Type 0
-Statement = (h : Shape) → InRange h → (es : List Element) → CoveredAll h (beginning h) es → Readers h (along h (beginning h) es .state)
+-- a client that has read all that is acknowledged is not declined by 15
+abbrev pub Unlocked : Shape → State → Type 0
+Unlocked h x =
+    (s : ℕ) (q : Request) (content locks given values : List ℕ)
+    → serverAt (x .records) s .acked ≤ q .mark
+    → ¬ (replied h x s q content locks given ≡ no 15 values)
+
+abbrev pub Readers : Type 0
+Readers = (h : Shape) → InRange h → (es : List Element) → CoveredAll h (beginning h) es
+    → Unread h (along h (beginning h) es .state) × Unlocked h (along h (beginning h) es .state)
 
 -- ================ its proof
 
--- The bounds of what is given: no estimate is above what is issued, and 13 comes before 15, so that all that is issued is acknowledged.
-bounds : (h : Shape) (x : State) (H : History) (σ : protocol.State) → Sim h x H σ → (s : ℕ) (q : Request) (content locks given values : List ℕ)
-    → issued h x s q content locks given ≡ no 15 values
-    → (k : ℕ) × (e : ℕ) × (values ≡ k ∷ e ∷ []) × (q .mark < e) × (e ≤ serverAt (x .records) s .acked)
+-- no estimate is above what is issued, and 13 comes before 15: all that is issued is acknowledged
+unread : (h : Shape) (x : State) (H : History) (σ : protocol.State) → Sim h x H σ → Unread h x
 unfolding until
-bounds h x H σ S s q content locks given values r =
+unread h x H σ S s q content locks given values r =
     let p : Input = record { call = call.Issue s q; content = content; locks = locks; given = given } in
     let d = locked-exactly h x s q content locks given values .0 r in
     let none = passed (until 15 (rowsOf h x p)) (d .0) in
@@ -59,15 +66,11 @@ bounds h x H σ S s q content locks given values r =
     let all = ltb-false (v .acked) (v .issued) (none 13) in
     (k, d .1 .estimate, d .1 .given, first .above, omega (arith, first .estimate, row .estimate k, row .entered k, row .issued, all))
 
-pub readers : Statement
+unlocked : (h : Shape) (x : State) → Unread h x → Unlocked h x
+unlocked h x u s q content locks given values read r = let b = u s q content locks given values r in omega (arith, read, b .3, b .4)
+
+pub readers : Readers
 readers h range es a =
     let w = from-fresh h range es a in
-    record {
-      unread = λ s q content locks given k e r.
-          let b = bounds h _ _ (w .state) (w .sim) s q content locks given (k ∷ e ∷ []) r in
-          let same : e ≡ b .1 = cc (b .2) in
-          (omega (arith, same, b .3), omega (arith, same, b .4));
-      granted = λ s q content locks given values read r.
-          let b = bounds h _ _ (w .state) (w .sim) s q content locks given values r in
-          omega (arith, read, b .3, b .4);
-    }
+    let u = unread h _ _ (w .state) (w .sim) in
+    (u, unlocked h _ u)

@@ -1,0 +1,3 @@
+pub mod Headers
+pub mod Written
+pub mod Writing

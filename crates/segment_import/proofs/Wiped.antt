@@ -1,0 +1,81 @@
+-- A medium whose places are all wiped: the bytes behind its slots are all zero, and where they are not, one of its places is not wiped.
+-- Assumes nothing.
+use mathlib.Core.Path.{_≡_, refl, sym, ap, _∙_}
+use mathlib.Core.Bool.{Bool, true, false, _&&_, and-eq-true-iff, and-assoc, false≢true}
+use mathlib.Core.List.{List, [], _∷_, _++_}
+use Prim.Native.Nat.{ℕ, zero, suc, _+_, _-_, _*_, _≤_, _<_}
+use native.Mathlib.Omega.{arith}
+use lib.Dec.{eqb}
+use lib.ListN.{length, take, drop, replicate, length-drop, take-append-drop}
+use lib.Seq.{drop-drop}
+use Rattle.octets.specs.Octets.{part, allZero}
+use Rattle.octets.proofs.Laws.{length-part}
+use Rattle.octets.proofs.Reading.{zeros-are, zeros-zero}
+use Rattle.storage.specs.Sizes.{slotsSize, placeSize, mediumSize, placeOffset}
+use Rattle.storage.specs.Places.{wiped}
+use Rattle.storage.specs.Log.{placeAt}
+
+zero-append : (s t : List ℕ) → allZero (s ++ t) ≡ (allZero s && allZero t)
+unfolding allZero
+zero-append [] t = refl
+zero-append (b ∷ s) t = ap (λ (r : Bool). eqb b 0 && r) (zero-append s t) ∙ sym (and-assoc (eqb b 0) (allZero s) (allZero t))
+
+-- both pieces of a list of zeros
+zero-pieces : (i : ℕ) (s : List ℕ) → allZero s ≡ (allZero (take i s) && allZero (drop i s))
+zero-pieces i s = ap allZero (sym (take-append-drop i s)) ∙ zero-append (take i s) (drop i s)
+
+zero-part : (o k : ℕ) (s : List ℕ) → allZero s ≡ true → allZero (part o k s) ≡ true
+zero-part o k s h =
+    let d = and-eq-true-iff (allZero (take o s)) (allZero (drop o s)) .0 (sym (zero-pieces o s) ∙ h) in
+    and-eq-true-iff (allZero (take k (drop o s))) (allZero (drop k (drop o s))) .0 (sym (zero-pieces k (drop o s)) ∙ d .1) .0
+
+-- place n among the bytes behind the slots
+place-behind : (n : ℕ) (m : List ℕ) → placeAt n m ≡ part (placeSize * (n - 1)) placeSize (drop slotsSize m)
+unfolding placeAt
+place-behind n m = ap (take placeSize) (sym (drop-drop (placeSize * (n - 1)) slotsSize m))
+
+pub all-wiped : (N : ℕ) (m : List ℕ) → length m ≡ mediumSize N → allZero (drop slotsSize m) ≡ true
+    → (n : ℕ) → 1 ≤ n → n ≤ N → placeAt n m ≡ wiped
+unfolding placeAt wiped
+all-wiped N m l h n lo hi =
+    let z : allZero (placeAt n m) ≡ true = ap allZero (place-behind n m) ∙ zero-part (placeSize * (n - 1)) placeSize (drop slotsSize m) h in
+    zeros-are (placeAt n m) z ∙ ap (λ (i : ℕ). replicate i 0) (length-part (placeOffset n) placeSize m (omega arith))
+
+-- N blocks that are not all zero: one of them is not
+not-zero : (N : ℕ) (s : List ℕ) → length s ≡ placeSize * N → allZero s ≡ false → (i : ℕ) × (i < N) × (allZero (part (placeSize * i) placeSize s) ≡ false)
+unfolding allZero
+not-zero zero [] l h = absurd (false≢true (sym h))
+not-zero zero (b ∷ s) l h = absurd (omega arith)
+not-zero (suc N) s l h =
+    go (allZero (take placeSize s)) refl (λ e. not-zero N (drop placeSize s) (length-drop placeSize s ∙ omega arith) e)
+  where
+    go : (b : Bool) → allZero (take placeSize s) ≡ b
+        → (allZero (drop placeSize s) ≡ false → (i : ℕ) × (i < N) × (allZero (part (placeSize * i) placeSize (drop placeSize s)) ≡ false))
+        → (i : ℕ) × (i < suc N) × (allZero (part (placeSize * i) placeSize s) ≡ false)
+    go false e f = (0, omega arith, e)
+    go true e f =
+        let r = f (ap (λ (t : Bool). t && allZero (drop placeSize s)) (sym e) ∙ sym (zero-pieces placeSize s) ∙ h) in
+        let i = r .0 in
+        let q : placeSize * suc i ≡ placeSize + placeSize * i = omega arith in
+        let same : part (placeSize * suc i) placeSize s ≡ part (placeSize * i) placeSize (drop placeSize s) =
+        ap (take placeSize) (ap (λ (j : ℕ). drop j s) q ∙ sym (drop-drop (placeSize * i) placeSize s)) in
+        (suc i, omega (arith, r .1), ap allZero same ∙ r .2)
+
+pub some-written : (N : ℕ) (m : List ℕ) → length m ≡ mediumSize N → allZero (drop slotsSize m) ≡ false
+    → (n : ℕ) × (1 ≤ n) × (n ≤ N) × (placeAt n m ≡ wiped → ⊥)
+unfolding wiped
+some-written N m l h =
+    let r = not-zero N (drop slotsSize m) (length-drop slotsSize m ∙ omega arith) h in
+    let i = r .0 in
+    let q : placeSize * (i + 1 - 1) ≡ placeSize * i = omega arith in
+    let same : placeAt (i + 1) m ≡ part (placeSize * i) placeSize (drop slotsSize m) =
+    place-behind (i + 1) m ∙ ap (λ (j : ℕ). part j placeSize (drop slotsSize m)) q in
+    (i + 1, omega arith, omega (arith, r .1), λ e. false≢true (sym (r .2) ∙ ap allZero (sym same ∙ e) ∙ zeros-zero placeSize))
+
+-- so where every place is wiped, all is zero behind the slots
+pub all-zero : (N : ℕ) (m : List ℕ) → length m ≡ mediumSize N → ((n : ℕ) → 1 ≤ n → n ≤ N → placeAt n m ≡ wiped) → allZero (drop slotsSize m) ≡ true
+all-zero N m l w = go (allZero (drop slotsSize m)) refl
+  where
+    go : (b : Bool) → allZero (drop slotsSize m) ≡ b → b ≡ true
+    go true e = refl
+    go false e = let r = some-written N m l e in absurd (r .3 (w (r .0) (r .1) (r .2)))

@@ -2,6 +2,7 @@
 -- Assumes nothing.
 use Prim.Native.Nat.{ℕ}
 use mathlib.Core.List.{List, []}
+use lib.ListN.{replicate}
 use Rattle.cluster.specs.declared.Records.{Records}
 use Rattle.cluster.specs.declared.Server.{Server}
 use Rattle.cluster.specs.declared.Refusal.{Refusal}
@@ -10,6 +11,9 @@ use Rattle.cluster.specs.declared.Outcome.{Outcome}
 use Rattle.cluster.specs.declared.Call.{Call}
 use Rattle.cluster.specs.State.{State, putServer}
 use Rattle.cluster.specs.Replies.{replyOf}
+use Rattle.segment.specs.declared.header.Stamp.{Stamp}
+use Rattle.segment.specs.Header.{keySize}
+use Rattle.segment.specs.Pair.{Files}
 use Rattle.cluster.specs.Refusals.{Input}
 use Rattle.cluster.specs.Effects.{Result, noBytes}
 use Rattle.checks.specs.declared.Change.{Change}
@@ -18,9 +22,28 @@ use Rattle.checks.specs.declared.Change.{Change}
 abbrev pub stateOf : Records → List ℕ → List ℕ → State
 stateOf r media tables = record { records = r; media = media; tables = tables }
 
--- a call without data and locks
+-- the two files that are lent to an export, and none
+abbrev pub filesOf : List ℕ → List ℕ → Files
+filesOf dataFile indexFile = record { dataFile = dataFile; indexFile = indexFile }
+
+abbrev pub noFiles : Files
+noFiles = filesOf [] []
+
+-- a time and a key that no call reads
+abbrev pub noStamp : Stamp
+noStamp = record { time = 0; key = replicate keySize 0 }
+
+-- a call that has neither data nor locks nor anything of an export beside it
 abbrev pub inputOf : Call → List ℕ → Input
-inputOf c given = record { call = c; content = []; locks = []; given = given }
+inputOf c given = record { call = c; content = []; locks = []; given = given; stamp = noStamp; files = noFiles }
+
+-- a call with all that may lie beside one; and an export, without data and locks
+abbrev pub besideOf : Call → (content locks given : List ℕ) → Stamp → (dataFile indexFile : List ℕ) → Input
+besideOf c content locks given stamp dataFile indexFile =
+    record { call = c; content = content; locks = locks; given = given; stamp = stamp; files = filesOf dataFile indexFile }
+
+abbrev pub exportOf : Call → (given : List ℕ) → Stamp → (dataFile indexFile : List ℕ) → Input
+exportOf c given stamp dataFile indexFile = besideOf c [] [] given stamp dataFile indexFile
 
 -- an outcome and the lent slices at exit
 abbrev pub resultOf : Outcome → List ℕ → List ℕ → Result

@@ -16,7 +16,7 @@ use Rattle.cluster.specs.declared.Call.{Call}
 use Rattle.cluster.specs.declared.Call.the-variants as call
 use Rattle.cluster.specs.State.{State, freshEntry, serverAt, entryAt}
 use Rattle.cluster.specs.Refusals.{Input, voteMark, cleanAt, sessionAtTop, sessionDiffers, rowsOf, Verdict, pass, declined, firstOf}
-use Rattle.cluster.specs.Effects.{arrives, raisedSession, entryAfter, openedRegister, prepareEffect, trimEffect, noteEffect, readEffect, appendEffect, takeEffect, openEffect, issueEffect, stopEffect, reassignEffect}
+use Rattle.cluster.specs.Effects.{arrives, raisedSession, entryAfter, openedRegister, prepareEffect, trimEffect, noteEffect, readEffect, exportEffect, appendEffect, takeEffect, openEffect, issueEffect, stopEffect, reassignEffect}
 use Rattle.cluster.specs.Step.{effect, unless, step}
 
 -- ---- the statement
@@ -45,7 +45,7 @@ module _ (h : Shape) (x : State) (p : Input) (i : ℕ) (l : h .replicas ≤ i) w
   g = x .records .register
 
   after : (c : Call) → entryAt (effect h x p c .state .records .register .entries) i ≡ entryAt (g .entries) i
-  unfolding prepareEffect trimEffect noteEffect readEffect appendEffect takeEffect openEffect openedRegister issueEffect stopEffect reassignEffect
+  unfolding prepareEffect trimEffect noteEffect readEffect exportEffect appendEffect takeEffect openEffect openedRegister issueEffect stopEffect reassignEffect
   after (call.Take s f) = either-has (arrives f && not (sessionAtTop (g .session))) (raisedSession g) g i _ refl refl
   after (call.Prepare s j f) = refl
   after (call.Copy s a b f) = refl
@@ -59,6 +59,7 @@ module _ (h : Shape) (x : State) (p : Input) (i : ℕ) (l : h .replicas ≤ i) w
   after (call.Send s j f) = refl
   after (call.Note s j f) = refl
   after (call.Read s j n f) = refl
+  after (call.Export s j f) = refl
   after (call.Stop s) = refl
   after call.Reassign = refl
 

@@ -10,6 +10,8 @@ use mathlib.Core.List.{List, [], _∷_}
 use Prim.Native.Nat.{ℕ, _+_, _≤_}
 use native.Mathlib.Omega.{arith}
 use borrow.Author.Tests.{leb-true, leb-false, le-leb, ltb-false, eqb-false}
+use Rattle.segment.specs.declared.header.Stamp.{Stamp}
+use Rattle.segment.specs.Pair.{Files}
 use Rattle.cluster.specs.declared.Shape.{Shape}
 use Rattle.cluster.specs.declared.Request.{Request}
 use Rattle.cluster.specs.declared.Call.the-variants as call
@@ -26,35 +28,35 @@ use Rattle.cluster.proofs.Declines.{effect-never-no}
 
 -- ---- the statements
 
-abbrev issue : ℕ → Request → List ℕ → List ℕ → List ℕ → Input
-issue s q content locks given = record { call = call.Issue s q; content = content; locks = locks; given = given }
+abbrev issue : ℕ → Request → List ℕ → List ℕ → List ℕ → Stamp → Files → Input
+issue s q content locks given stamp files = record { call = call.Issue s q; content = content; locks = locks; given = given; stamp = stamp; files = files }
 
 abbrev pub DueExactly : Type 0
 DueExactly =
-    (h : Shape) (x : State) (s : ℕ) (q : Request) (content locks given : List ℕ)
-    → let p = issue s q content locks given in
+    (h : Shape) (x : State) (s : ℕ) (q : Request) (content locks given : List ℕ) (stamp : Stamp) (files : Files)
+    → let p = issue s q content locks given stamp files in
     let v = serverAt (x .records) s in
     firstOf (until 23 (rowsOf h x p)) ≡ pass
     → (step h x p .reply ≡ no 23 []) ↔ (v .start + h .interval ≤ v .issued)
 
 abbrev pub WithinInterval : Type 0
 WithinInterval =
-    (h : Shape) (x : State) (s : ℕ) (q : Request) (content locks given : List ℕ) (n : ℕ) (vs : List ℕ)
-    → step h x (issue s q content locks given) .reply ≡ ok (n ∷ vs)
+    (h : Shape) (x : State) (s : ℕ) (q : Request) (content locks given : List ℕ) (stamp : Stamp) (files : Files) (n : ℕ) (vs : List ℕ)
+    → step h x (issue s q content locks given stamp files) .reply ≡ ok (n ∷ vs)
     → n ≤ serverAt (x .records) s .start + h .interval
 
 abbrev pub NeverDue : Type 0
 NeverDue =
-    (h : Shape) (x : State) (s : ℕ) (q : Request) (content locks given values : List ℕ)
+    (h : Shape) (x : State) (s : ℕ) (q : Request) (content locks given : List ℕ) (stamp : Stamp) (files : Files) (values : List ℕ)
     → h .interval ≡ h .places
-    → step h x (issue s q content locks given) .reply ≡ no 23 values
+    → step h x (issue s q content locks given stamp files) .reply ≡ no 23 values
     → ⊥
 
 -- ---- when it is given
 
-module _ (h : Shape) (x : State) (s : ℕ) (q : Request) (content locks given : List ℕ) where
+module _ (h : Shape) (x : State) (s : ℕ) (q : Request) (content locks given : List ℕ) (stamp : Stamp) (files : Files) where
   abbrev p : Input
-  p = issue s q content locks given
+  p = issue s q content locks given stamp files
 
   abbrev v : Server
   v = serverAt (x .records) s
@@ -96,17 +98,17 @@ module _ (h : Shape) (x : State) (s : ℕ) (q : Request) (content locks given : 
       )
 
 pub due-exactly : DueExactly
-due-exactly h x s q content locks given k = (when-due h x s q content locks given [], then-due h x s q content locks given k)
+due-exactly h x s q content locks given stamp files k = (when-due h x s q content locks given stamp files [], then-due h x s q content locks given stamp files k)
 
 pub never-due : NeverDue
-never-due h x s q content locks given = not-due h x s q content locks given
+never-due h x s q content locks given stamp files = not-due h x s q content locks given stamp files
 
 -- ---- an ID that is answered
 
 pub within-interval : WithinInterval
 unfolding step unless issueEffect
-within-interval h x s q content locks given n vs r =
-    let p = issue s q content locks given in
+within-interval h x s q content locks given stamp files n vs r =
+    let p = issue s q content locks given stamp files in
     let v = serverAt (x .records) s in
     let all = ok-passes (rowsOf h x p) x (effect h x p (p .call)) (n ∷ vs) r in
     let same : v .issued + 1 ≡ n = cc (rw all at r) in

@@ -11,14 +11,16 @@ use native.Mathlib.Omega.{arith}
 use lib.ListN.{getD}
 use lib.Dec.{eqb}
 use Rattle.base.proofs.Tests.{both}
+use Rattle.segment.specs.declared.header.Stamp.{Stamp}
+use Rattle.segment.specs.Pair.{Files}
 use Rattle.cluster.specs.declared.Shape.{Shape}
 use Rattle.cluster.specs.declared.Call.{Call}
 use Rattle.cluster.specs.declared.Call.the-variants as call
 use Rattle.cluster.specs.State.{State}
-use Rattle.cluster.specs.Replies.{ok, no, silent}
+use Rattle.cluster.specs.Replies.{Reply, ok, no, silent}
 use Rattle.cluster.specs.Refusals.{Input, Row, order, checksOf, rowsOf, pass, declined, firstOf, answered}
-use Rattle.cluster.specs.Effects.{Result, noBytes, prepareEffect, trimEffect, noteEffect, readEffect, appendEffect, takeEffect, openEffect, issueEffect, stopEffect, reassignEffect}
-use Rattle.cluster.specs.Step.{effect, unless, step}
+use Rattle.cluster.specs.Effects.{Result, noBytes, prepareEffect, trimEffect, noteEffect, readEffect, exportEffect, appendEffect, takeEffect, openEffect, issueEffect, stopEffect, reassignEffect}
+use Rattle.cluster.specs.Step.{effect, unless, step, written, ifOk, filesAfter}
 
 -- ---- the statement
 
@@ -61,6 +63,7 @@ isAnswered (call.Issue s q) = true
 isAnswered (call.Send s i f) = answered f
 isAnswered (call.Note s i f) = answered f
 isAnswered (call.Read s i n f) = answered f
+isAnswered (call.Export s i f) = answered f
 isAnswered (call.Stop s) = true
 isAnswered call.Reassign = true
 
@@ -72,11 +75,14 @@ pub record Declines (h : Shape) (x : State) (p : Input) : Type 0 where
   -- then register, server records, media and lock tables are as they were, and the bytes are zeros
   pub unchanged :
       (n : ℕ) (values : List ℕ) → step h x p .reply ≡ no n values → (step h x p .state ≡ x) × (step h x p .bytes ≡ noBytes)
+  -- "no reply but ok changes them": the two files that are lent to an export
+  pub only-ok : ((values : List ℕ) → step h x p .reply ≡ ok values → ⊥) → filesAfter h x p ≡ p .files
   -- otherwise the call does what is defined for it
   pub otherwise : NoneHolds (rowsOf h x p) → step h x p ≡ effect h x p (p .call)
   -- and that is answered ok or, if the message isn't answered, silent; never no
   pub replies : (values : List ℕ) × (effect h x p (p .call) .reply ≡ cond (isAnswered (p .call)) (ok values) silent)
-  -- "18 to 22 are seen only if the message is answered": what the receiver declines; reassign has no fate, and its 21 is always seen
+  -- "18 to 22 are seen only if the message is answered": what the receiver declines; reassign has no fate, and its 21 is always seen. So is the 1 of an
+  -- export's two files: "checked after 20 and seen only if the message is answered"
   pub seen : (i : ℕ) → rowAt (checksOf h x p (p .call) .receiving) i .holds ≡ true → isAnswered (p .call) ≡ true
 
 abbrev pub Statement : Type 0
@@ -143,11 +149,12 @@ module _ (h : Shape) (x : State) (p : Input) where
   received (call.Send s i f) = (asks _ _, (asks _ _, (asks _ _, tt)))
   received (call.Note s i f) = (asks _ _, (asks _ _, (asks _ _, tt)))
   received (call.Read s i n f) = (asks _ _, (asks _ _, (asks _ _, tt)))
+  received (call.Export s i f) = (asks _ _, (asks _ _, (asks _ _, (asks _ _, tt))))
   received (call.Stop s) = tt
   received call.Reassign = tt
 
   replies : (c : Call) → (values : List ℕ) × (effect h x p c .reply ≡ cond (isAnswered c) (ok values) silent)
-  unfolding prepareEffect trimEffect noteEffect readEffect appendEffect takeEffect openEffect issueEffect stopEffect reassignEffect
+  unfolding prepareEffect trimEffect noteEffect readEffect exportEffect appendEffect takeEffect openEffect issueEffect stopEffect reassignEffect
   replies (call.Take s f) = (_, refl)
   replies (call.Prepare s i f) = (_, refl)
   replies (call.Copy s a b f) = (_, refl)
@@ -157,6 +164,7 @@ module _ (h : Shape) (x : State) (p : Input) where
   replies (call.Send s i f) = (_, refl)
   replies (call.Note s i f) = (_, refl)
   replies (call.Read s i n f) = (_, refl)
+  replies (call.Export s i f) = (_, refl)
   replies (call.Stop s) = (_, refl)
   replies call.Reassign = (_, refl)
 
@@ -170,20 +178,21 @@ effect-never-no h x p n values q = let r = replies h x p (p .call) in never-no (
 
 -- ---- a call
 
-ordered : (h : Shape) (x : State) (content locks given : List ℕ) (c : Call)
-    → follows (map (λ w. w .number) (rowsOf h x (record { call = c; content = content; locks = locks; given = given }))) order ≡ true
+ordered : (h : Shape) (x : State) (content locks given : List ℕ) (stamp : Stamp) (files : Files) (c : Call)
+    → follows (map (λ w. w .number) (rowsOf h x (record { call = c; content = content; locks = locks; given = given; stamp = stamp; files = files }))) order ≡ true
 unfolding follows
-ordered h x content locks given (call.Take s f) = refl
-ordered h x content locks given (call.Prepare s i f) = refl
-ordered h x content locks given (call.Copy s a b f) = refl
-ordered h x content locks given (call.Trim s i f) = refl
-ordered h x content locks given (call.Open s f) = refl
-ordered h x content locks given (call.Issue s q) = refl
-ordered h x content locks given (call.Send s i f) = refl
-ordered h x content locks given (call.Note s i f) = refl
-ordered h x content locks given (call.Read s i n f) = refl
-ordered h x content locks given (call.Stop s) = refl
-ordered h x content locks given call.Reassign = refl
+ordered h x content locks given stamp files (call.Take s f) = refl
+ordered h x content locks given stamp files (call.Prepare s i f) = refl
+ordered h x content locks given stamp files (call.Copy s a b f) = refl
+ordered h x content locks given stamp files (call.Trim s i f) = refl
+ordered h x content locks given stamp files (call.Open s f) = refl
+ordered h x content locks given stamp files (call.Issue s q) = refl
+ordered h x content locks given stamp files (call.Send s i f) = refl
+ordered h x content locks given stamp files (call.Note s i f) = refl
+ordered h x content locks given stamp files (call.Read s i n f) = refl
+ordered h x content locks given stamp files (call.Export s i f) = refl
+ordered h x content locks given stamp files (call.Stop s) = refl
+ordered h x content locks given stamp files call.Reassign = refl
 
 module _ (h : Shape) (x : State) (p : Input) where
   abbrev ws : List Row
@@ -216,11 +225,21 @@ module _ (h : Shape) (x : State) (p : Input) where
   no-of-first : (n : ℕ) (values : List ℕ) → DeclinedBy ws n values → step h x p .reply ≡ no n values
   no-of-first n values d = ap (λ r. r .reply) (by-first (d .at) (d .first)) ∙ rw (d .same-number, d .same-values)
 
+  only-ok : ((values : List ℕ) → step h x p .reply ≡ ok values → ⊥) → filesAfter h x p ≡ p .files
+  unfolding filesAfter ifOk
+  only-ok never = go (step h x p .reply) refl
+    where
+      go : (r : Reply) → step h x p .reply ≡ r → ifOk r (written h x p (p .call)) (p .files) ≡ p .files
+      go (ok values) e = absurd (never values e)
+      go (no n values) e = refl
+      go silent e = refl
+
 pub declines : Statement
 declines h x p = record {
-  ordered = ordered h x (p .content) (p .locks) (p .given) (p .call);
+  ordered = ordered h x (p .content) (p .locks) (p .given) (p .stamp) (p .files) (p .call);
   exactly = λ n values. (first-of-no h x p n values, no-of-first h x p n values);
   unchanged = λ n values e. let d = first-of-no h x p n values e in let q = by-first h x p (d .at) (d .first) in (ap (λ r. r .state) q, ap (λ r. r .bytes) q);
+  only-ok = only-ok h x p;
   otherwise = by-none h x p;
   replies = replies h x p (p .call);
   seen = seen-at (p .call) (checksOf h x p (p .call) .receiving) (received h x p (p .call));

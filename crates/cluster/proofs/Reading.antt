@@ -18,6 +18,8 @@ use Rattle.storage.specs.Log.{placeAt, markOf}
 use Rattle.storage.specs.Operations.{mediumAt}
 use Rattle.storage.proofs.Scan.{log-valid}
 use Rattle.storage.proofs.Records.{Written, only-records}
+use Rattle.segment.specs.declared.header.Stamp.{Stamp}
+use Rattle.segment.specs.Pair.{Files}
 use Rattle.cluster.specs.declared.Shape.{Shape}
 use Rattle.cluster.specs.declared.Call.the-variants as call
 use Rattle.cluster.specs.State.{State, serverAt, markAt}
@@ -31,20 +33,20 @@ use Rattle.cluster.proofs.Rows.{passed}
 
 abbrev pub Statement : Type 0
 Statement =
-    (h : Shape) (x : State) (s i n : ℕ) (f : Fate) (content locks given values : List ℕ)
+    (h : Shape) (x : State) (s i n : ℕ) (f : Fate) (content locks given : List ℕ) (stamp : Stamp) (files : Files) (values : List ℕ)
     → Bytes (x .media)
-    → (let p : Input = record { call = call.Read s i n f; content = content; locks = locks; given = given } in
+    → (let p : Input = record { call = call.Read s i n f; content = content; locks = locks; given = given; stamp = stamp; files = files } in
     step h x p .reply ≡ ok values → Written n (step h x p .bytes))
 
 -- ---- its proof
 
 -- what is answered ok was not declined
-passes : (d : Verdict) (x : State) (e : Result) (values : List ℕ) → unless d x e .reply ≡ ok values → d ≡ pass
+pub passes : (d : Verdict) (x : State) (e : Result) (values : List ℕ) → unless d x e .reply ≡ ok values → d ≡ pass
 unfolding unless
 passes pass x e values q = refl
 passes (declined n vs) x e values q = let z : _≡_ {A = ℕ} 0 1 = cc in absurd (omega arith)
 
-is-answered : (b : Bool) (us vs : List ℕ) → cond b (ok us) silent ≡ ok vs → b ≡ true
+pub is-answered : (b : Bool) (us vs : List ℕ) → cond b (ok us) silent ≡ ok vs → b ≡ true
 is-answered true us vs e = refl
 is-answered false us vs e = let z : _≡_ {A = ℕ} 0 1 = cc in absurd (omega arith)
 
@@ -57,8 +59,8 @@ at-place N (suc k) m e l =
 
 pub reads : Statement
 unfolding step unless readEffect markDiffers placeAt
-reads h x s i n f content locks given values b q =
-    let p : Input = record { call = call.Read s i n f; content = content; locks = locks; given = given } in
+reads h x s i n f content locks given stamp files values b q =
+    let p : Input = record { call = call.Read s i n f; content = content; locks = locks; given = given; stamp = stamp; files = files } in
     let v = serverAt (x .records) s in
     let N = h .places in
     let m = mediumAt N i (x .media) in

@@ -1,4 +1,4 @@
--- "Entries and recorded marks from R up are never read": two states that differ only there get the same reply and differ only there
+-- "Entries and recorded marks from R up are never read": two states that differ only there get the same reply and the same files and differ only there
 -- afterwards. (That the register's entries from R up stay as they are is proofs/Beyond.) The theorem is `unread`.
 -- Assumes nothing.
 use mathlib.Core.Path.{_≡_, refl, sym, ap, ap₂, _∙_}
@@ -23,8 +23,8 @@ use Rattle.cluster.specs.declared.Call.the-variants as call
 use Rattle.cluster.specs.State.{State, freshEntry, idleServer, serverAt, putServer, putRegister, entryAt, markAt}
 use Rattle.cluster.specs.Replies.{ok}
 use Rattle.cluster.specs.Refusals.{Input, Row, closingFits, entriesFit, serverFits, markAbove, answered, isOpen, voteMark, cleanAt, sessionAtTop, sessionDiffers, checksOf, rowsOf, Verdict, pass, declined, firstOf}
-use Rattle.cluster.specs.Effects.{Result, noBytes, acknowledge, afterMessage, replyTo, withMediumAndServer, message, prepareEffect, trimEffect, noteEffect, readEffect, appendEffect, arrives, raisedSession, takeEffect, openEffect, issueEffect, stopEffect, raisedGeneration, reassignEffect}
-use Rattle.cluster.specs.Step.{effect, unless, step}
+use Rattle.cluster.specs.Effects.{Result, noBytes, acknowledge, afterMessage, replyTo, withMediumAndServer, message, prepareEffect, trimEffect, noteEffect, looked, readEffect, exportEffect, appendEffect, arrives, raisedSession, takeEffect, openEffect, issueEffect, stopEffect, raisedGeneration, reassignEffect}
+use Rattle.cluster.specs.Step.{effect, unless, step, written, ifOk, filesAfter}
 use Rattle.cluster.proofs.Rows.{conditionOf, passed}
 use Rattle.cluster.proofs.Visible.{visibleRegister, visibleServer, visible, server-is, mark-same, undecided-same, voteMark-same, clean-same, message-same, issued-same, opening-same, opened-same, opened-register, raised-same, put-same, register-again, state-again}
 
@@ -39,7 +39,7 @@ abbrev pub Statement : Type 0
 Statement =
     (h : Shape) (x y : State) (p : Input)
     → visible (h .replicas) x ≡ visible (h .replicas) y
-    → Alike (h .replicas) (step h x p) (step h y p)
+    → Alike (h .replicas) (step h x p) (step h y p) × (filesAfter h x p ≡ filesAfter h y p)
 
 -- ---- refusal 2
 
@@ -126,6 +126,11 @@ module _ (h : Shape) (x : State) where
           state = rw (server-is r x s, e) (put-server _ _ (withMedium (h .places) i m (x .media)) same);
         }
 
+    looked-alike : (i : ℕ) (f : Fate) → i < r → visible r (looked (h .places) x s i f) ≡ visible r (looked (h .places) z s i f)
+    looked-alike i f l =
+        let k = markOf (h .places) (mediumAt (h .places) i (x .media)) in
+        rw (server-is r x s) (put-server _ _ (x .media) (message-same r v f i k l))
+
     -- the same with the register's and the tables put in too
     put-all : (g k : Register) (a b : Server) (tables : List ℕ)
         → visibleRegister r k ≡ visibleRegister r g
@@ -209,6 +214,7 @@ module _ (h : Shape) (x : State) where
     verdict (call.Send s i f) = at i s _ (λ e. rw (server-is r x s, above-same, e)) (λ l e. rw (server-is r x s, above-same, e))
     verdict (call.Note s i f) = at i s _ (λ e. rw (server-is r x s, above-same, e)) (λ l e. rw (server-is r x s, above-same, e))
     verdict (call.Read s i n f) = at i s _ (λ e. rw (server-is r x s, above-same, e)) (λ l e. rw (server-is r x s, above-same, e))
+    verdict (call.Export s i f) = at i s _ (λ e. rw (server-is r x s, above-same, e)) (λ l e. rw (server-is r x s, above-same, e))
     verdict (call.Stop s) = rw (above-same)
     verdict call.Reassign = rw (above-same)
 
@@ -218,7 +224,7 @@ module _ (h : Shape) (x : State) where
     Effects c = Alike r (effect h x p c) (effect h z p c)
 
     effects : (c : Call) → ((n : ℕ) → conditionOf n (listFor x c) ≡ false) → Effects c
-    unfolding prepareEffect trimEffect noteEffect readEffect appendEffect issueEffect stopEffect reassignEffect
+    unfolding prepareEffect trimEffect noteEffect readEffect exportEffect appendEffect issueEffect stopEffect reassignEffect
     effects (call.Take s f) none = take-alike s f
     effects (call.Prepare s i f) none =
         let l = leb-false r i (none 4) in
@@ -247,13 +253,9 @@ module _ (h : Shape) (x : State) where
         let l = leb-false r i (none 4) in
         message-alike s i f _ _ (rw (server-is r x s, mark-same r (serverAt (x .records) s) i l)) l
     effects (call.Read s i n f) none =
-        let l = leb-false r i (none 4) in
-        let k = markOf (h .places) (mediumAt (h .places) i (x .media)) in
-        record {
-          reply = refl;
-          bytes = refl;
-          state = rw (server-is r x s) (put-server s _ _ (x .media) (message-same r (serverAt (x .records) s) f i k l));
-        }
+        record { reply = refl; bytes = refl; state = looked-alike s i f (leb-false r i (none 4)) }
+    effects (call.Export s i f) none =
+        record { reply = refl; bytes = refl; state = looked-alike s i f (leb-false r i (none 4)) }
     effects (call.Stop s) none = record { reply = refl; bytes = refl; state = put-server s idleServer idleServer (x .media) refl }
     effects call.Reassign none =
         record {
@@ -273,13 +275,47 @@ module _ (h : Shape) (x : State) where
         rw (← verdict (p .call))
         (unless-alike (firstOf (rowsOf h x p)) (λ e. effects (p .call) (passed (rowsOf h x p) e)))
 
+    -- ---- the files
+
+    abbrev Writes : Call → Type 0
+    Writes c = written h x p c ≡ written h z p c
+
+    writes : (c : Call) → ((n : ℕ) → conditionOf n (listFor x c) ≡ false) → Writes c
+    writes (call.Take s f) none = refl
+    writes (call.Prepare s i f) none = refl
+    writes (call.Copy s a b f) none = refl
+    writes (call.Trim s i f) none = refl
+    writes (call.Open s f) none = refl
+    writes (call.Issue s q) none = refl
+    writes (call.Send s i f) none = refl
+    writes (call.Note s i f) none = refl
+    writes (call.Read s i n f) none = refl
+    writes (call.Export s i f) none = rw (server-is r x s, mark-same r (serverAt (x .records) s) i (leb-false r i (none 4)))
+    writes (call.Stop s) none = refl
+    writes call.Reassign none = refl
+
+    files-alike : (d : Verdict) → (d ≡ pass → Writes (p .call))
+        → ifOk (unless d x (effect h x p (p .call)) .reply) (written h x p (p .call)) (p .files)
+        ≡ ifOk (unless d x (effect h x p (p .call)) .reply) (written h z p (p .call)) (p .files)
+    unfolding unless ifOk
+    files-alike pass e = rw (e refl)
+    files-alike (declined n values) e = refl
+
+    files-of-visible : filesAfter h x p ≡ filesAfter h z p
+    unfolding step filesAfter
+    files-of-visible =
+        files-alike (firstOf (rowsOf h x p)) (λ e. writes (p .call) (passed (rowsOf h x p) e))
+        ∙ rw (of-visible .reply)
+
 pub unread : Statement
 unread h x y p e =
     let a = of-visible h x p in
     let b = of-visible h y p in
-    let same : step h (visible (h .replicas) x) p ≡ step h (visible (h .replicas) y) p = ap (λ (w : State). step h w p) e in
-    record {
-      reply = a .reply ∙ ap (λ (k : Result). k .reply) same ∙ sym (b .reply);
-      bytes = a .bytes ∙ ap (λ (k : Result). k .bytes) same ∙ sym (b .bytes);
-      state = a .state ∙ ap (λ (k : Result). visible (h .replicas) (k .state)) same ∙ sym (b .state);
-    }
+    let same : step h (visible (h .replicas) x) p ≡ step h (visible (h .replicas) y) p = ap (λ (w : State). step h w p) e in (
+      record {
+        reply = a .reply ∙ ap (λ (k : Result). k .reply) same ∙ sym (b .reply);
+        bytes = a .bytes ∙ ap (λ (k : Result). k .bytes) same ∙ sym (b .bytes);
+        state = a .state ∙ ap (λ (k : Result). visible (h .replicas) (k .state)) same ∙ sym (b .state);
+      },
+      files-of-visible h x p ∙ ap (λ (w : State). filesAfter h w p) e ∙ sym (files-of-visible h y p),
+    )

@@ -19,6 +19,8 @@ use Rattle.storage.specs.Sizes.{placeSize}
 use Rattle.storage.specs.Places.{recordBytes}
 use Rattle.storage.specs.Log.{placeAt, markOf}
 use Rattle.storage.specs.Operations.{writesOf, mediumAt, withMedium}
+use Rattle.segment.specs.declared.header.Stamp.{Stamp}
+use Rattle.segment.specs.Pair.{Files, pairOf}
 use Rattle.cluster.specs.declared.Closing.{Closing}
 use Rattle.cluster.specs.declared.Closing.the-variants.{Unresolved, Mark}
 use Rattle.cluster.specs.declared.Entry.{Entry}
@@ -28,7 +30,7 @@ use Rattle.cluster.specs.declared.Server.{Server}
 use Rattle.cluster.specs.declared.Request.{Request}
 use Rattle.cluster.specs.State.{State, idleServer, serverAt, putServer, putRegister, entryAt, markAt, memberAt, recordOf, tableSize, tableAt, withTable}
 use Rattle.cluster.specs.Replies.{Reply, ok, silent}
-use Rattle.cluster.specs.Refusals.{answered, isOpen, cleanAt, refusesPrepare, refusesAt, sessionAtTop, sessionDiffers}
+use Rattle.cluster.specs.Refusals.{answered, isOpen, cleanAt, refusesPrepare, refusesAt, exportedPlaces, sessionAtTop, sessionDiffers}
 
 -- what a call leaves: the state, the reply, and the 64 bytes that read answers (zeros for any other reply)
 pub record Result : Type 0 where
@@ -144,16 +146,31 @@ noteEffect N x s i f given =
     let m = mediumAt N i (x .media) in
     message N x s i f (mediumAfter (refusesAt N v (x .media) i) f given (writesOf N [] (op.Note (v .start) (markAt v i)) m) m)
 
+-- the state after a message to replica i that only reads
+abbrev pub looked : ℕ → State → ℕ → ℕ → Fate → State
+looked N x s i f =
+    let v = serverAt (x .records) s in
+    let m = mediumAt N i (x .media) in
+    record { records = putServer (x .records) s (afterMessage f v i (markOf N m)); media = x .media; tables = x .tables }
+
 -- "read i, ID (open): the place's 64 bytes."
 unfoldable pub readEffect : ℕ → State → ℕ → ℕ → ℕ → Fate → Result
 readEffect N x s i n f =
-    let v = serverAt (x .records) s in
     let m = mediumAt N i (x .media) in
     record {
-      state = record { records = putServer (x .records) s (afterMessage f v i (markOf N m)); media = x .media; tables = x .tables };
+      state = looked N x s i f;
       reply = replyTo f (ok []);
       bytes = cond (answered f) (placeAt n m) noBytes;
     }
+
+-- document 02, No. 3: "Export a member's log .. with read's fate"; "a call with no named answer gives ok alone". What it writes into its two files is
+-- `exportedPair`; the cluster is as after a read.
+unfoldable pub exportEffect : ℕ → State → ℕ → ℕ → Fate → Result
+exportEffect N x s i f = record { state = looked N x s i f; reply = replyTo f (ok []); bytes = noBytes }
+
+-- "Export a member's log, up to the lesser of its mark and the acknowledged one, as one segment"
+abbrev pub exportedPair : ℕ → State → ℕ → ℕ → Stamp → Files
+exportedPair N x s i z = pairOf z (exportedPlaces N (serverAt (x .records) s) i (x .media))
 
 -- a record in the place behind b's mark, for copy and send: "send and copy answer [the acknowledged mark] if open, a copy while opening
 -- answers b's mark"

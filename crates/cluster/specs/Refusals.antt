@@ -1,7 +1,7 @@
 -- Why a call is declined: document 01's list, and what document 02 adds to it. First the conditions, each under its sentence and a function of what it
 -- looks at; then each call's own list of them.
 -- Assumes nothing.
-use Prim.Native.Nat.{ℕ, _+_, _*_, _^_}
+use Prim.Native.Nat.{ℕ, _+_, _*_, _^_, min}
 use mathlib.Core.List.{List, [], _∷_, _++_}
 use mathlib.Core.Bool.{Bool, true, false, not, cond, _&&_, _||_}
 use lib.ListN.{length}
@@ -14,9 +14,11 @@ use Rattle.storage.specs.declared.slot.Current.{Current}
 use Rattle.storage.specs.declared.slot.Current.the-variants.{First, Second, Neither}
 use Rattle.storage.specs.Sizes.{dataLimit, placesLimit, mediumSize}
 use Rattle.storage.specs.Slots.{currentOf, storedSlot}
-use Rattle.storage.specs.Log.{markOf}
+use Rattle.storage.specs.Log.{placesFrom, markOf}
 use Rattle.storage.specs.Operations.{mediumAt}
 use Rattle.storage.specs.Given.{passes}
+use Rattle.segment.specs.declared.header.Stamp.{Stamp}
+use Rattle.segment.specs.Pair.{Files, dataSize, indexSize}
 use Rattle.base.specs.Below.{all, count}
 use Rattle.quorum.specs.Vote.{quorum, majorityMark, decided}
 use Rattle.locks.specs.declared.LockTest.{LockTest}
@@ -37,12 +39,15 @@ use Rattle.cluster.specs.declared.Call.{Call}
 use Rattle.cluster.specs.declared.Call.the-variants as call
 use Rattle.cluster.specs.State.{State, tableSize, serverAt, entryAt, markAt, activeAt, votesAt, holds, tableAt}
 
--- a call with what lies beside it: issue's data and locks, and the bytes given for a torn write
+-- a call with what lies beside it: issue's data and locks, the bytes given for a torn write, and for an export the time and key that are handed in and the
+-- two files that are lent
 pub record Input : Type 0 where
   pub call : Call
   pub content : List ℕ
   pub locks : List ℕ
   pub given : List ℕ
+  pub stamp : Stamp
+  pub files : Files
 
 -- a number of the list, whether its condition holds, and the values given with it
 pub record Row : Type 0 where
@@ -248,6 +253,18 @@ refuses N session recorded m = noSlot m || promiseDiffers session m || markDiffe
 abbrev pub refusesAt : ℕ → Server → List ℕ → ℕ → Bool
 refusesAt N v media i = refuses N (v .session) (markAt v i) (mediumAt N i media)
 
+-- 1 once more, document 02, No. 3: "Slices of other than the exact lengths .. meet refusal 1; for an export's two files this is checked after 20 and seen
+-- only if the message is answered". What is exported is "a member's log, up to the lesser of its mark and the acknowledged one".
+abbrev pub exportedMark : Server → ℕ → ℕ
+exportedMark v i = min (markAt v i) (v .acked)
+
+abbrev pub exportedPlaces : ℕ → Server → ℕ → List ℕ → List (List ℕ)
+exportedPlaces N v i media = placesFrom (exportedMark v i) 1 (mediumAt N i media)
+
+unfoldable pub otherSizes : List (List ℕ) → Files → Bool
+otherSizes ps files =
+    not (eqb (length (files .dataFile)) (dataSize ps)) || not (eqb (length (files .indexFile)) (indexSize (length ps)))
+
 -- 21 "A number to be raised is at its top (take, reassign)": sessions have 64 bits, generations 32. reassign has no fate.
 abbrev pub sessionAtTop : ℕ → Bool
 sessionAtTop s = eqb (s + 1) (2 ^ 64)
@@ -271,9 +288,11 @@ seen f n b = row n (answered f && b)
 
 -- ================ the lists
 
--- "Checked in this order": the order of the numbers, which each call's own list follows (proofs/Declines); 23 is "just after 14"
+-- "Checked in this order": the order of the numbers, which each call's own list follows (proofs/Declines); 23 is "just after 14", and the 1 of an
+-- export's two files "is checked after 20"
 abbrev pub order : List ℕ
-order = 1 ∷ 2 ∷ 3 ∷ 4 ∷ 5 ∷ 6 ∷ 7 ∷ 8 ∷ 9 ∷ 10 ∷ 11 ∷ 12 ∷ 13 ∷ 14 ∷ 23 ∷ 15 ∷ 16 ∷ 17 ∷ 18 ∷ 19 ∷ 20 ∷ 21 ∷ 22 ∷ []
+order =
+    1 ∷ 2 ∷ 3 ∷ 4 ∷ 5 ∷ 6 ∷ 7 ∷ 8 ∷ 9 ∷ 10 ∷ 11 ∷ 12 ∷ 13 ∷ 14 ∷ 23 ∷ 15 ∷ 16 ∷ 17 ∷ 18 ∷ 19 ∷ 20 ∷ 1 ∷ 21 ∷ 22 ∷ []
 
 -- what a call is checked for: before anything is looked at, before its message is sent, and by the receiver of the message
 pub record Checks : Type 0 where
@@ -329,6 +348,10 @@ receivedRows N session recorded m f =
 
 abbrev pub receivedAt : ℕ → Server → ℕ → List ℕ → Fate → List Row
 receivedAt N v i media f = receivedRows N (v .session) (markAt v i) (mediumAt N i media) f
+
+-- an export's: the replica's, then the server's of the two files
+abbrev pub exportedRows : ℕ → Server → ℕ → List ℕ → Fate → Files → List Row
+exportedRows N v i media f files = receivedAt N v i media f ++ (seen f 1 (otherSizes (exportedPlaces N v i media) files) ∷ [])
 
 -- issue's own: of a request with so many bytes of data, by a server's record and lock table
 abbrev pub requestRows : Shape → Server → Request → ℕ → List ℕ → List ℕ → List Row
@@ -407,6 +430,13 @@ checksOf h x p (call.Read s i n f) =
       admission = replicaRows h x s (noReplicaAt (h .replicas) i) onlyOpen;
       sending = readRows h v i n f (p .given);
       receiving = receivedAt (h .places) v i (x .media) f;
+    }
+checksOf h x p (call.Export s i f) =
+    let v = serverAt (x .records) s in
+    record {
+      admission = replicaRows h x s (noReplicaAt (h .replicas) i) onlyOpen;
+      sending = messageRows h v i f (p .given);
+      receiving = exportedRows (h .places) v i (x .media) f (p .files);
     }
 checksOf h x p (call.Stop s) = record { admission = serverRows h x s; sending = []; receiving = [] }
 checksOf h x p call.Reassign =

@@ -4,12 +4,13 @@ use mathlib.Core.List.{List, _++_}
 use Rattle.cluster.specs.declared.Shape.{Shape}
 use Rattle.cluster.specs.declared.Call.{Call}
 use Rattle.cluster.specs.declared.Call.the-variants as call
+use Rattle.segment.specs.Pair.{Files}
 use Rattle.cluster.specs.State.{State, serverAt}
-use Rattle.cluster.specs.Replies.{no}
+use Rattle.cluster.specs.Replies.{Reply, ok, no, silent}
 use Rattle.cluster.specs.Refusals.{Input, Row, checksOf, rowsOf, voteMark, Verdict, pass, declined, firstOf}
-use Rattle.cluster.specs.Effects.{Result, noBytes, prepareEffect, trimEffect, noteEffect, readEffect, copyEffect, sendEffect, takeEffect, openEffect, issueEffect, stopEffect, reassignEffect}
+use Rattle.cluster.specs.Effects.{Result, noBytes, prepareEffect, trimEffect, noteEffect, readEffect, exportEffect, exportedPair, copyEffect, sendEffect, takeEffect, openEffect, issueEffect, stopEffect, reassignEffect}
 
--- what each of the eleven calls does
+-- what each of the twelve calls does
 abbrev pub effect : Shape → State → Input → Call → Result
 effect h x p (call.Take s f) = takeEffect x s f
 effect h x p (call.Prepare s i f) = prepareEffect (h .places) x s i f (p .given)
@@ -20,6 +21,7 @@ effect h x p (call.Issue s q) = issueEffect x s q (p .content) (p .locks)
 effect h x p (call.Send s i f) = sendEffect (h .replicas) (h .places) x s i f (p .given)
 effect h x p (call.Note s i f) = noteEffect (h .places) x s i f (p .given)
 effect h x p (call.Read s i n f) = readEffect (h .places) x s i n f
+effect h x p (call.Export s i f) = exportEffect (h .places) x s i f
 effect h x p (call.Stop s) = stopEffect x s
 effect h x p call.Reassign = reassignEffect x
 
@@ -43,3 +45,29 @@ onceSent h x p = rest (checksOf h x p (p .call) .receiving) x (effect h x p (p .
 
 unfoldable pub step : Shape → State → Input → Result
 step h x p = rest (rowsOf h x p) x (effect h x p (p .call))
+
+-- ================ the two files that are lent beside a call
+
+-- what a call writes into them: only an export does
+abbrev pub written : Shape → State → Input → Call → Files
+written h x p (call.Take s f) = p .files
+written h x p (call.Prepare s i f) = p .files
+written h x p (call.Copy s a b f) = p .files
+written h x p (call.Trim s i f) = p .files
+written h x p (call.Open s f) = p .files
+written h x p (call.Issue s q) = p .files
+written h x p (call.Send s i f) = p .files
+written h x p (call.Note s i f) = p .files
+written h x p (call.Read s i n f) = p .files
+written h x p (call.Export s i f) = exportedPair (h .places) x s i (p .stamp)
+written h x p (call.Stop s) = p .files
+written h x p call.Reassign = p .files
+
+-- document 02, No. 3: "no reply but ok changes them"
+unfoldable pub ifOk : Reply → Files → Files → Files
+ifOk (ok values) new old = new
+ifOk (no n values) new old = old
+ifOk silent new old = old
+
+unfoldable pub filesAfter : Shape → State → Input → Files
+filesAfter h x p = ifOk (step h x p .reply) (written h x p (p .call)) (p .files)

@@ -82,8 +82,8 @@ pub struct Request {
     pub header: u32,
 }
 
-// The eleven calls. The first number is the server's, then come replicas (copy: from, to) and read's ID. Data, locks and the given
-// bytes lie beside it.
+// The twelve calls. The first number is the server's, then come replicas (copy: from, to) and read's ID. What holds bytes lies beside it, since an
+// enum holds no array: data, locks, the given bytes, and for an export the time and key of its headers and its two files.
 pub enum Call {
     Take(u64, Fate),
     Prepare(u64, u64, Fate),
@@ -94,6 +94,7 @@ pub enum Call {
     Send(u64, u64, Fate),
     Note(u64, u64, Fate),
     Read(u64, u64, u64, Fate),
+    Export(u64, u64, Fate),
     Stop(u64),
     Reassign,
 }

@@ -18,6 +18,7 @@ use Rattle.storage.specs.declared.operation.Operation.{Operation}
 use Rattle.storage.specs.Sizes.{mediumSize}
 use Rattle.storage.specs.Log.{placeAt, markOf}
 use Rattle.storage.specs.Operations.{writesOf, mediumAt, withMedium}
+use Rattle.segment.specs.declared.header.Stamp.{Stamp}
 use Rattle.cluster.specs.declared.Shape.{Shape}
 use Rattle.cluster.specs.declared.Records.{Records}
 use Rattle.cluster.specs.declared.Server.{Server}
@@ -25,17 +26,17 @@ use Rattle.cluster.specs.declared.Refusal.the-variants.{NoSlot, OtherPromise, O
 use Rattle.cluster.specs.declared.Outcome.{Outcome}
 use Rattle.cluster.specs.declared.Call.the-variants as call
 use Rattle.cluster.specs.State.{serverAt, markAt}
-use Rattle.cluster.specs.Refusals.{noSlot, promiseDiffers, markDiffers, answered, row, firstOf}
-use Rattle.cluster.specs.Effects.{Result, mediumAfter, unheard, readEffect}
+use Rattle.cluster.specs.Refusals.{noSlot, promiseDiffers, markDiffers, answered, exportedPlaces, otherSizes, row, firstOf}
+use Rattle.cluster.specs.Effects.{Result, mediumAfter, unheard, readEffect, exportEffect}
 use Rattle.cluster.specs.Step.{unless, rest, onceSent}
 use Rattle.replica.specs.declared.Heard.{Heard}
 use Rattle.replica.specs.declared.Heard.the-variants.{Silent, Declined, Mark}
 use Rattle.replica.proofs.Heard.{the-type}
 use Rattle.replica.specs.Answers.{says, prepares, otherPromise, otherMark, declines, Answered, answerTo, readHeard}
 use Rattle.checks.specs.declared.Change.{Change}
-use Rattle.checks.specs.Results.{stateOf, inputOf, resultOf, changed}
+use Rattle.checks.specs.Results.{filesOf, stateOf, inputOf, exportOf, resultOf, changed}
 use Rattle.checks.proofs.Frame.{declined-server}
-use Rattle.delivery.specs.Hearing.{onHeard, counted, afterAnswer, afterSilence, readBy}
+use Rattle.delivery.specs.Hearing.{onHeard, counted, afterAnswer, afterSilence, readBy, exportBy}
 use Rattle.delivery.specs.Messages.{appends, operationEffect, operated}
 
 -- the `else` of an `if let Declined`
@@ -170,3 +171,31 @@ read-heard h r media tables s i n f given at end w o t =
     go true e false false true = refl
     go true e false false false = rw e
     go false e a b c = rw e
+
+-- export too; its files are looked at behind the replica's rows
+pub export-heard :
+    (h : Shape) (r : Records) (media tables : List ℕ) (s i : ℕ) (f : Fate) (given : List ℕ) (z : Stamp) (dataFile indexFile : List ℕ) (at end : ℕ)
+    → Spans (h .places) i at end
+    → (o : Heard)
+    → o ≡ readHeard (h .places) (serverAt r s .session) (markAt (serverAt r s) i) f (lent at end media)
+    → resultOf (exportBy r s i (otherSizes (exportedPlaces (h .places) (serverAt r s) i media) (filesOf dataFile indexFile)) o) media tables
+    ≡ onceSent h (stateOf r media tables) (exportOf (call.Export s i f) given z dataFile indexFile)
+unfolding unless firstOf readBy exportBy exportEffect readHeard
+export-heard h r media tables s i f given z dataFile indexFile at end w o t =
+    let v = serverAt r s in
+    let m = mediumAt (h .places) i media in
+    let e : o ≡ readHeard (h .places) (v .session) (markAt v i) f m = rw (lent-is (h .places) i at end media w) at t in
+    rw e (go (answered f) refl (noSlot m) (promiseDiffers (v .session) m) (markDiffers (h .places) (markAt v i) m) (otherSizes (exportedPlaces (h .places) v i media) (filesOf dataFile indexFile)))
+  where
+    x : Result
+    x = exportEffect (h .places) (stateOf r media tables) s i f
+
+    go : (ans : Bool) → answered f ≡ ans → (a b c d : Bool)
+        → resultOf (exportBy r s i d (cond ans (says a b c (markOf (h .places) (mediumAt (h .places) i media))) Silent)) media tables
+        ≡ rest (row 18 (ans && a) ∷ row 19 (ans && b) ∷ row 20 (ans && c) ∷ row 1 (ans && d) ∷ []) (stateOf r media tables) x
+    go true e true b c d = refl
+    go true e false true c d = refl
+    go true e false false true d = refl
+    go true e false false false true = refl
+    go true e false false false false = rw e
+    go false e a b c d = rw e

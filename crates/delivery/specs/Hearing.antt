@@ -1,16 +1,17 @@
 -- What a server makes of what it hears from a replica. Document 01, "No answer means silent".
 -- Assumes nothing.
 use Prim.Native.Nat.{ℕ}
-use mathlib.Core.Bool.{Bool, cond, _&&_}
+use mathlib.Core.Bool.{Bool, true, false, cond, _&&_}
 use mathlib.Core.List.{List}
 use Rattle.cluster.specs.declared.Phase.{Phase}
 use Rattle.cluster.specs.declared.Records.{Records}
 use Rattle.cluster.specs.declared.Server.{Server}
 use Rattle.cluster.specs.declared.Outcome.{Outcome}
 use Rattle.cluster.specs.declared.Answer.the-variants as answer
+use Rattle.cluster.specs.declared.Refusal.the-variants.{OutsideShape}
 use Rattle.cluster.specs.State.{serverAt, putServer}
 use Rattle.cluster.specs.Refusals.{isOpen}
-use Rattle.cluster.specs.Effects.{heard, unheard, acknowledge}
+use Rattle.cluster.specs.Effects.{noBytes, heard, unheard, acknowledge}
 use Rattle.replica.specs.declared.Heard.{Heard}
 use Rattle.replica.specs.declared.Heard.the-variants.{Silent, Declined, Mark}
 use Rattle.checks.specs.declared.Change.{Change}
@@ -40,3 +41,13 @@ unfoldable pub readBy : Records → ℕ → ℕ → List ℕ → Heard → Outco
 readBy r s i place Silent = silentOf (putServer r s (unheard (serverAt r s) i))
 readBy r s i place (Declined why) = declinedOf r why
 readBy r s i place (Mark n) = record { records = putServer r s (heard (serverAt r s) i n); answer = answer.Done; bytes = place }
+
+abbrev pub isMark : Heard → Bool
+isMark Silent = false
+isMark (Declined why) = false
+isMark (Mark n) = true
+
+-- export: an answer comes with two files, unless those lent have other lengths; document 02, No. 3: "for an export's two files this is checked after 20 and
+-- seen only if the message is answered"
+unfoldable pub exportBy : Records → ℕ → ℕ → Bool → Heard → Outcome
+exportBy r s i other o = cond (isMark o && other) (declinedOf r OutsideShape) (readBy r s i noBytes o)

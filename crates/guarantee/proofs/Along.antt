@@ -12,6 +12,8 @@ use Rattle.protocol.specs.Events.{Steps, _▸▸_}
 use Rattle.protocol.proofs.Invariant.{Inv}
 use Rattle.protocol.proofs.Fresh.{fresh-inv}
 use Rattle.protocol.proofs.Keeps.{steps-inv}
+use Rattle.segment.specs.declared.header.Stamp.{Stamp}
+use Rattle.segment.specs.Pair.{Files}
 use Rattle.cluster.specs.declared.Shape.{Shape}
 use Rattle.cluster.specs.declared.Call.{Call}
 use Rattle.cluster.specs.declared.Call.the-variants as call
@@ -33,6 +35,7 @@ use Rattle.guarantee.proofs.calls.Trim.{trim-played}
 use Rattle.guarantee.proofs.calls.Send.{send-played}
 use Rattle.guarantee.proofs.calls.Note.{note-played}
 use Rattle.guarantee.proofs.calls.Read.{read-played}
+use Rattle.guarantee.proofs.calls.Export.{export-played}
 use Rattle.guarantee.proofs.calls.Stop.{stop-played}
 use Rattle.guarantee.proofs.calls.Reassign.{reassign-played}
 use Rattle.guarantee.proofs.calls.Take.{take-played}
@@ -41,19 +44,20 @@ use Rattle.guarantee.proofs.calls.Open.{open-played}
 
 -- ================ one call
 
-module _ (h : Shape) (x : State) (H : History) (σ : protocol.State) (content locks given : List ℕ) (reader : ℕ) where
-  played : (c : Call) → Before h x H σ (with-call c content locks given reader) → Played h x H σ (with-call c content locks given reader)
-  played (call.Take s f) B = take-played h x H σ content locks given reader s f B
-  played (call.Prepare s i f) B = prepare-played h x H σ content locks given reader s i f B
-  played (call.Copy s a b f) B = copy-played h x H σ content locks given reader s a b f B
-  played (call.Trim s i f) B = trim-played h x H σ content locks given reader s i f B
-  played (call.Open s f) B = open-played h x H σ content locks given reader s f B
-  played (call.Issue s q) B = issue-played h x H σ content locks given reader s q B
-  played (call.Send s i f) B = send-played h x H σ content locks given reader s i f B
-  played (call.Note s i f) B = note-played h x H σ content locks given reader s i f B
-  played (call.Read s i n f) B = read-played h x H σ content locks given reader s i n f B
-  played (call.Stop s) B = stop-played h x H σ content locks given reader s B
-  played call.Reassign B = reassign-played h x H σ content locks given reader B
+module _ (h : Shape) (x : State) (H : History) (σ : protocol.State) (content locks given : List ℕ) (stamp : Stamp) (files : Files) (reader : ℕ) where
+  played : (c : Call) → Before h x H σ (with-call c content locks given stamp files reader) → Played h x H σ (with-call c content locks given stamp files reader)
+  played (call.Take s f) B = take-played h x H σ content locks given stamp files reader s f B
+  played (call.Prepare s i f) B = prepare-played h x H σ content locks given stamp files reader s i f B
+  played (call.Copy s a b f) B = copy-played h x H σ content locks given stamp files reader s a b f B
+  played (call.Trim s i f) B = trim-played h x H σ content locks given stamp files reader s i f B
+  played (call.Open s f) B = open-played h x H σ content locks given stamp files reader s f B
+  played (call.Issue s q) B = issue-played h x H σ content locks given stamp files reader s q B
+  played (call.Send s i f) B = send-played h x H σ content locks given stamp files reader s i f B
+  played (call.Note s i f) B = note-played h x H σ content locks given stamp files reader s i f B
+  played (call.Read s i n f) B = read-played h x H σ content locks given stamp files reader s i n f B
+  played (call.Export s i f) B = export-played h x H σ content locks given stamp files reader s i f B
+  played (call.Stop s) B = stop-played h x H σ content locks given stamp files reader s B
+  played call.Reassign B = reassign-played h x H σ content locks given stamp files reader B
 
 -- no effect is replied to with a refusal: the history hears of it
 heard-effect : (h : Shape) (x : State) (p : Input) (H K : History) → heard (effect h x p (p .call) .reply) H K ≡ K
@@ -90,7 +94,7 @@ module _ (h : Shape) (m : Moment) (e : Element) where
           rw (next-declined q) (σ, Steps.none, counted-tie h (m .state) (m .history) σ S)
       go (inr q) =
           let p = e .input in
-          let w = played h (m .state) (m .history) σ (p .content) (p .locks) (p .given) (e .reader) (p .call)
+          let w = played h (m .state) (m .history) σ (p .content) (p .locks) (p .given) (p .stamp) (p .files) (e .reader) (p .call)
           (record { range = range; sim = S; inv = I; passes = q; passed = passed h (m .state) p q; covered = a }) in
           rw (next-passed q) (w .0, w .1, counted-tie h _ _ (w .0) (w .2))
 

@@ -18,7 +18,8 @@
 --   Counts      the counts of the two agree: decided, acknowledged
 --   Blocks      media and lock tables in their slices
 --   Media       a medium whose log stayed, became shorter or got a record; Operations: after each storage operation, under each fate
---   Messages    a message to a replica that is not declined; Records: the server's record after it; Hearing: a server that hears or forgets
+--   Messages    a message to a replica that is not declined; Records: the server's record after it; Hearing: a server that hears or forgets;
+--               Looking: a message that only reads
 --   Standing    send and copy: whose records then stand there; Appending: what an open server acknowledges after one
 --   Sessions    a session after an issue, and after what it acknowledges
 --   Registers   the register that an open leaves; Opening: what an open finds; Opened: what it leaves
@@ -38,6 +39,7 @@ pub mod Operations
 pub mod Messages
 pub mod Records
 pub mod Hearing
+pub mod Looking
 pub mod Standing
 pub mod Appending
 pub mod Registers

@@ -12,6 +12,8 @@ use Rattle.fate.specs.declared.Fate.{Fate}
 use Rattle.protocol.specs.State as protocol
 use Rattle.protocol.proofs.Invariant.{Inv}
 use Rattle.protocol.proofs.Facts.{unopened}
+use Rattle.segment.specs.declared.header.Stamp.{Stamp}
+use Rattle.segment.specs.Pair.{Files}
 use Rattle.cluster.specs.declared.Shape.{Shape}
 use Rattle.cluster.specs.declared.Request.{Request}
 use Rattle.cluster.specs.declared.Call.the-variants as call
@@ -47,12 +49,12 @@ Once = (h : Shape) → InRange h → (es : List Element) → CoveredAll h (begin
 
 -- ================ its proof
 
-module _ (h : Shape) (x : State) (H : History) (σ : protocol.State) (S : Sim h x H σ) (I : Inv σ) (content locks given : List ℕ) (s : ℕ) where
+module _ (h : Shape) (x : State) (H : History) (σ : protocol.State) (S : Sim h x H σ) (I : Inv σ) (content locks given : List ℕ) (stamp : Stamp) (files : Files) (s : ℕ) where
   abbrev open-call : Fate → Input
-  open-call f = record { call = call.Open s f; content = content; locks = locks; given = given }
+  open-call f = record { call = call.Open s f; content = content; locks = locks; given = given; stamp = stamp; files = files }
 
   abbrev issue-call : Request → Input
-  issue-call q = record { call = call.Issue s q; content = content; locks = locks; given = given }
+  issue-call q = record { call = call.Issue s q; content = content; locks = locks; given = given; stamp = stamp; files = files }
 
   unopened-yet : (f : Fate) → Passes h x (open-call f) → H .sessions (H .current s) ≡ new-session
   unopened-yet f q =
@@ -104,17 +106,17 @@ module _ (h : Shape) (x : State) (H : History) (σ : protocol.State) (S : Sim h 
 new : (h : Shape) (x : State) (H : History) (σ : protocol.State) → Sim h x H σ → Inv σ → (p : Input) → New h x H p
 new h x H σ S I p =
     record {
-      opens = λ s f e c. opened-once h x H σ S I (p .content) (p .locks) (p .given) s f (as-open s f e c);
-      issues = λ s n q vs e r. issued-once h x H σ S I (p .content) (p .locks) (p .given) s q n vs (as-issue s n q vs e r);
+      opens = λ s f e c. opened-once h x H σ S I (p .content) (p .locks) (p .given) (p .stamp) (p .files) s f (as-open s f e c);
+      issues = λ s n q vs e r. issued-once h x H σ S I (p .content) (p .locks) (p .given) (p .stamp) (p .files) s q n vs (as-issue s n q vs e r);
     }
   where
     as-open : (s : ℕ) (f : Fate) → p .call ≡ call.Open s f → changed (x .records .register) (step h x p .state .records .register) ≡ true
         → changed (x .records .register)
-        (step h x (record { call = call.Open s f; content = p .content; locks = p .locks; given = p .given }) .state .records .register) ≡ true
+        (step h x (record { call = call.Open s f; content = p .content; locks = p .locks; given = p .given; stamp = p .stamp; files = p .files }) .state .records .register) ≡ true
     as-open s f e c = rw (← e) c
 
     as-issue : (s n : ℕ) (q : Request) (vs : List ℕ) → p .call ≡ call.Issue s q → step h x p .reply ≡ ok (n ∷ vs)
-        → step h x (record { call = call.Issue s q; content = p .content; locks = p .locks; given = p .given }) .reply ≡ ok (n ∷ vs)
+        → step h x (record { call = call.Issue s q; content = p .content; locks = p .locks; given = p .given; stamp = p .stamp; files = p .files }) .reply ≡ ok (n ∷ vs)
     as-issue s n q vs e r = rw (← e) r
 
 pub once : Once

@@ -18,6 +18,8 @@ use Rattle.protocol.specs.Marks.{flagged?, clean}
 use Rattle.protocol.specs.Events.{Can-open}
 use Rattle.protocol.proofs.Counting.{count-some}
 use Rattle.protocol.proofs.Facts.{unopened}
+use Rattle.segment.specs.declared.header.Stamp.{Stamp}
+use Rattle.segment.specs.Pair.{Files}
 use Rattle.cluster.specs.declared.Shape.{Shape}
 use Rattle.cluster.specs.declared.Register.{Register}
 use Rattle.cluster.specs.declared.Server.{Server}
@@ -57,8 +59,8 @@ same-clean : (a b : Bool) (m k D : ℕ) → a ≡ b → (b ≡ true → m ≡ k)
 same-clean a true m k D e f = rw (e, f refl)
 same-clean a false m k D e f = rw e
 
-module _ (h : Shape) (x : State) (H : History) (σ : protocol.State) (content locks given : List ℕ) (reader s : ℕ) (f : Fate)
-    (B : Before h x H σ (with-call (call.Open s f) content locks given reader)) where
+module _ (h : Shape) (x : State) (H : History) (σ : protocol.State) (content locks given : List ℕ) (stamp : Stamp) (files : Files) (reader s : ℕ) (f : Fate)
+    (B : Before h x H σ (with-call (call.Open s f) content locks given stamp files reader)) where
   S : Sim h x H σ
   S = B .sim
 

@@ -4,6 +4,8 @@ use mathlib.Core.List.{List}
 use Prim.Native.Nat.{ℕ}
 use Rattle.protocol.specs.State as protocol
 use Rattle.protocol.proofs.Invariant.{Inv}
+use Rattle.segment.specs.declared.header.Stamp.{Stamp}
+use Rattle.segment.specs.Pair.{Files}
 use Rattle.cluster.specs.declared.Shape.{Shape}
 use Rattle.cluster.specs.declared.Call.{Call}
 use Rattle.cluster.specs.State.{State}
@@ -14,9 +16,9 @@ use Rattle.guarantee.proofs.Ties.{Sim, Goes}
 use Rattle.guarantee.proofs.Passing.{Passes, Passed}
 
 -- an element of the list with this call
-abbrev pub with-call : Call → (content locks given : List ℕ) → (reader : ℕ) → Element
-with-call c content locks given reader =
-    record { input = record { call = c; content = content; locks = locks; given = given }; reader = reader }
+abbrev pub with-call : Call → (content locks given : List ℕ) → Stamp → Files → (reader : ℕ) → Element
+with-call c content locks given stamp files reader =
+    record { input = record { call = c; content = content; locks = locks; given = given; stamp = stamp; files = files }; reader = reader }
 
 -- the state and the history before a call that is not declined
 pub record Before (h : Shape) (x : State) (H : History) (σ : protocol.State) (e : Element) : Type 0 where

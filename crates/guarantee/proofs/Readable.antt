@@ -18,6 +18,8 @@ use Rattle.protocol.specs.State as protocol
 use Rattle.protocol.specs.Events.{Steps}
 use Rattle.protocol.proofs.Invariant.{Inv}
 use Rattle.protocol.proofs.Fresh.{fresh-inv}
+use Rattle.segment.specs.declared.header.Stamp.{Stamp}
+use Rattle.segment.specs.Pair.{Files}
 use Rattle.cluster.specs.declared.Shape.{Shape}
 use Rattle.cluster.specs.declared.Register.{Register}
 use Rattle.cluster.specs.declared.Server.{Server}
@@ -75,9 +77,9 @@ module _ (h : Shape) (range : InRange h) (x : State) (H : History) (σ : protoco
   same-register : (p : Input) → after h x p ≡ x .records .register → Reads p 0
   same-register p e s f q c = absurd (true≢false (sym c ∙ ap (changed (x .records .register)) e ∙ unchanged (x .records .register)))
 
-  module _ (s : ℕ) (f : Fate) (content locks given : List ℕ) where
+  module _ (s : ℕ) (f : Fate) (content locks given : List ℕ) (stamp : Stamp) (files : Files) where
     abbrev p : Input
-    p = record { call = call.Open s f; content = content; locks = locks; given = given }
+    p = record { call = call.Open s f; content = content; locks = locks; given = given; stamp = stamp; files = files }
 
     abbrev g : Register
     g = x .records .register
@@ -118,21 +120,22 @@ module _ (h : Shape) (range : InRange h) (x : State) (H : History) (σ : protoco
   other : (p : Input) → ((s : ℕ) (f : Fate) → p .call ≡ call.Open s f → ⊥) → (a : ℕ) × Reads p a
   other p n = (0, λ s f e c. absurd (n s f e))
 
-  of-call : (c : Call) (content locks given : List ℕ) → (a : ℕ) × Reads (record { call = c; content = content; locks = locks; given = given }) a
-  of-call (call.Open s f) content locks given = opens s f content locks given
-  of-call (call.Take s f) content locks given = other _ (λ t u e. let z : _≡_ {A = ℕ} 0 1 = cc in omega arith)
-  of-call (call.Prepare s i f) content locks given = other _ (λ t u e. let z : _≡_ {A = ℕ} 0 1 = cc in omega arith)
-  of-call (call.Copy s a b f) content locks given = other _ (λ t u e. let z : _≡_ {A = ℕ} 0 1 = cc in omega arith)
-  of-call (call.Trim s i f) content locks given = other _ (λ t u e. let z : _≡_ {A = ℕ} 0 1 = cc in omega arith)
-  of-call (call.Issue s q) content locks given = other _ (λ t u e. let z : _≡_ {A = ℕ} 0 1 = cc in omega arith)
-  of-call (call.Send s i f) content locks given = other _ (λ t u e. let z : _≡_ {A = ℕ} 0 1 = cc in omega arith)
-  of-call (call.Note s i f) content locks given = other _ (λ t u e. let z : _≡_ {A = ℕ} 0 1 = cc in omega arith)
-  of-call (call.Read s i n f) content locks given = other _ (λ t u e. let z : _≡_ {A = ℕ} 0 1 = cc in omega arith)
-  of-call (call.Stop s) content locks given = other _ (λ t u e. let z : _≡_ {A = ℕ} 0 1 = cc in omega arith)
-  of-call call.Reassign content locks given = other _ (λ t u e. let z : _≡_ {A = ℕ} 0 1 = cc in omega arith)
+  of-call : (c : Call) (content locks given : List ℕ) (stamp : Stamp) (files : Files) → (a : ℕ) × Reads (record { call = c; content = content; locks = locks; given = given; stamp = stamp; files = files }) a
+  of-call (call.Open s f) content locks given stamp files = opens s f content locks given stamp files
+  of-call (call.Take s f) content locks given stamp files = other _ (λ t u e. let z : _≡_ {A = ℕ} 0 1 = cc in omega arith)
+  of-call (call.Prepare s i f) content locks given stamp files = other _ (λ t u e. let z : _≡_ {A = ℕ} 0 1 = cc in omega arith)
+  of-call (call.Copy s a b f) content locks given stamp files = other _ (λ t u e. let z : _≡_ {A = ℕ} 0 1 = cc in omega arith)
+  of-call (call.Trim s i f) content locks given stamp files = other _ (λ t u e. let z : _≡_ {A = ℕ} 0 1 = cc in omega arith)
+  of-call (call.Issue s q) content locks given stamp files = other _ (λ t u e. let z : _≡_ {A = ℕ} 0 1 = cc in omega arith)
+  of-call (call.Send s i f) content locks given stamp files = other _ (λ t u e. let z : _≡_ {A = ℕ} 0 1 = cc in omega arith)
+  of-call (call.Note s i f) content locks given stamp files = other _ (λ t u e. let z : _≡_ {A = ℕ} 0 1 = cc in omega arith)
+  of-call (call.Read s i n f) content locks given stamp files = other _ (λ t u e. let z : _≡_ {A = ℕ} 0 1 = cc in omega arith)
+  of-call (call.Export s i f) content locks given stamp files = other _ (λ t u e. let z : _≡_ {A = ℕ} 0 1 = cc in omega arith)
+  of-call (call.Stop s) content locks given stamp files = other _ (λ t u e. let z : _≡_ {A = ℕ} 0 1 = cc in omega arith)
+  of-call call.Reassign content locks given stamp files = other _ (λ t u e. let z : _≡_ {A = ℕ} 0 1 = cc in omega arith)
 
   reads : (p : Input) → (a : ℕ) × Reads p a
-  reads p = of-call (p .call) (p .content) (p .locks) (p .given)
+  reads p = of-call (p .call) (p .content) (p .locks) (p .given) (p .stamp) (p .files)
 
 -- ================ a list of calls
 

@@ -10,6 +10,8 @@ use Prim.Native.Nat.{ℕ, _≤_, _<_}
 use native.Mathlib.Omega.{arith}
 use borrow.Author.Tests.{ltb-false}
 use Rattle.protocol.specs.State as protocol
+use Rattle.segment.specs.declared.header.Stamp.{Stamp}
+use Rattle.segment.specs.Pair.{Files}
 use Rattle.cluster.specs.declared.Shape.{Shape}
 use Rattle.cluster.specs.declared.Request.{Request}
 use Rattle.cluster.specs.declared.Call.the-variants as call
@@ -29,22 +31,22 @@ use Rattle.guarantee.proofs.Along.{from-fresh}
 -- ================ the statement
 
 -- what an issue to server s replies in state x
-abbrev replied : Shape → State → ℕ → Request → (content locks given : List ℕ) → Reply
-replied h x s q content locks given = step h x (record { call = call.Issue s q; content = content; locks = locks; given = given }) .reply
+abbrev replied : Shape → State → ℕ → Request → (content locks given : List ℕ) → Stamp → Files → Reply
+replied h x s q content locks given stamp files = step h x (record { call = call.Issue s q; content = content; locks = locks; given = given; stamp = stamp; files = files }) .reply
 
 -- what is given with 15 is a lock, and an ID above the client's mark that the server has acknowledged
 abbrev pub Unread : Shape → State → Type 0
 Unread h x =
-    (s : ℕ) (q : Request) (content locks given values : List ℕ)
-    → replied h x s q content locks given ≡ no 15 values
+    (s : ℕ) (q : Request) (content locks given : List ℕ) (stamp : Stamp) (files : Files) (values : List ℕ)
+    → replied h x s q content locks given stamp files ≡ no 15 values
     → (k : ℕ) × (e : ℕ) × (values ≡ k ∷ e ∷ []) × (q .mark < e) × (e ≤ serverAt (x .records) s .acked)
 
 -- a client that has read all that is acknowledged is not declined by 15
 abbrev pub Unlocked : Shape → State → Type 0
 Unlocked h x =
-    (s : ℕ) (q : Request) (content locks given values : List ℕ)
+    (s : ℕ) (q : Request) (content locks given : List ℕ) (stamp : Stamp) (files : Files) (values : List ℕ)
     → serverAt (x .records) s .acked ≤ q .mark
-    → ¬ (replied h x s q content locks given ≡ no 15 values)
+    → ¬ (replied h x s q content locks given stamp files ≡ no 15 values)
 
 abbrev pub Readers : Type 0
 Readers = (h : Shape) → InRange h → (es : List Element) → CoveredAll h (beginning h) es
@@ -55,9 +57,9 @@ Readers = (h : Shape) → InRange h → (es : List Element) → CoveredAll h (be
 -- no estimate is above what is issued, and 13 comes before 15: all that is issued is acknowledged
 unread : (h : Shape) (x : State) (H : History) (σ : protocol.State) → Sim h x H σ → Unread h x
 unfolding until
-unread h x H σ S s q content locks given values r =
-    let p : Input = record { call = call.Issue s q; content = content; locks = locks; given = given } in
-    let d = locked-exactly h x s q content locks given values .0 r in
+unread h x H σ S s q content locks given stamp files values r =
+    let p : Input = record { call = call.Issue s q; content = content; locks = locks; given = given; stamp = stamp; files = files } in
+    let d = locked-exactly h x s q content locks given stamp files values .0 r in
     let none = passed (until 15 (rowsOf h x p)) (d .0) in
     let v = serverAt (x .records) s in
     let row = S .servers .each s (below-four s (none 3)) .serving (is-open (v .phase) (none 5)) in
@@ -67,7 +69,7 @@ unread h x H σ S s q content locks given values r =
     (k, d .1 .estimate, d .1 .given, first .above, omega (arith, first .estimate, row .estimate k, row .entered k, row .issued, all))
 
 unlocked : (h : Shape) (x : State) → Unread h x → Unlocked h x
-unlocked h x u s q content locks given values read r = let b = u s q content locks given values r in omega (arith, read, b .3, b .4)
+unlocked h x u s q content locks given stamp files values read r = let b = u s q content locks given stamp files values r in omega (arith, read, b .3, b .4)
 
 pub readers : Readers
 readers h range es a =

@@ -58,6 +58,7 @@ told-keeps h x e r H (call.Prepare s i f) K = K
 told-keeps h x e r H (call.Trim s i f) K = K
 told-keeps h x e r H (call.Note s i f) K = K
 told-keeps h x e r H (call.Read s i n f) K = K
+told-keeps h x e r H (call.Export s i f) K = K
 told-keeps h x e r H (call.Stop s) K = K
 told-keeps h x e r H call.Reassign K = K
 

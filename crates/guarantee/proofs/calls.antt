@@ -3,6 +3,7 @@
 pub mod Stop
 pub mod Note
 pub mod Read
+pub mod Export
 pub mod Reassign
 pub mod Take
 pub mod Issue

@@ -78,7 +78,7 @@ pub record InRange (h : Shape) : Type 0 where
   pub interval-most : h .interval ≤ h .places
 
 -- Arguments within their widths, as far as the guarantee needs it. The types of the running calls say this, and more: here servers, replicas, IDs, marks
--- and locks may be any numbers.
+-- and locks may be any numbers, and so may the time and the key of an export and what lies in its two files.
 pub record RequestFits (q : Request) : Type 0 where
   pub client : q .client < 2 ^ 32
   pub generation : q .generation < 2 ^ 32
@@ -97,6 +97,7 @@ messages (call.Issue s q) = false
 messages (call.Send s i f) = true
 messages (call.Note s i f) = true
 messages (call.Read s i n f) = true
+messages (call.Export s i f) = true
 messages (call.Stop s) = false
 messages call.Reassign = false
 

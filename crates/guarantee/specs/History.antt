@@ -120,7 +120,7 @@ stands N x H i n = cond (validAt N x i n) (loggedAs (placeAt n (mediumAt N i (x 
 
 -- "its starting mark is what that call answers under the fate answered"
 abbrev pub answeredOpen : Input → ℕ → Input
-answeredOpen p s = record { call = call.Open s Answered; content = p .content; locks = p .locks; given = p .given }
+answeredOpen p s = record { call = call.Open s Answered; content = p .content; locks = p .locks; given = p .given; stamp = p .stamp; files = p .files }
 
 abbrev pub startingMark : Shape → State → Input → ℕ → ℕ
 startingMark h x p s = valueOr 0 (step h x (answeredOpen p s) .reply)
@@ -166,6 +166,7 @@ told h x e r H (call.Prepare s i f) = H
 told h x e r H (call.Trim s i f) = H
 told h x e r H (call.Note s i f) = H
 told h x e r H (call.Read s i n f) = H
+told h x e r H (call.Export s i f) = H
 told h x e r H (call.Stop s) = H
 told h x e r H call.Reassign = H
 

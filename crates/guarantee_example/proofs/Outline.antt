@@ -38,6 +38,7 @@ opensBy h x e (call.Issue s q) = none
 opensBy h x e (call.Send s i f) = none
 opensBy h x e (call.Note s i f) = none
 opensBy h x e (call.Read s i n f) = none
+opensBy h x e (call.Export s i f) = none
 opensBy h x e (call.Stop s) = none
 opensBy h x e call.Reassign = none
 
@@ -87,6 +88,7 @@ retell h x e l H (call.Issue s q) = told h x e (replying h x e l) H (call.Issue 
 retell h x e l H (call.Send s i f) = told h x e (replying h x e l) H (call.Send s i f)
 retell h x e l H (call.Note s i f) = told h x e (replying h x e l) H (call.Note s i f)
 retell h x e l H (call.Read s i n f) = told h x e (replying h x e l) H (call.Read s i n f)
+retell h x e l H (call.Export s i f) = told h x e (replying h x e l) H (call.Export s i f)
 retell h x e l H (call.Stop s) = told h x e (replying h x e l) H (call.Stop s)
 retell h x e l H call.Reassign = told h x e (replying h x e l) H call.Reassign
 
@@ -118,6 +120,7 @@ retell-is h x e H (call.Issue s p) = refl
 retell-is h x e H (call.Send s i f) = refl
 retell-is h x e H (call.Note s i f) = refl
 retell-is h x e H (call.Read s i n f) = refl
+retell-is h x e H (call.Export s i f) = refl
 retell-is h x e H (call.Stop s) = refl
 retell-is h x e H call.Reassign = refl
 
@@ -150,6 +153,7 @@ opener (call.Issue s q) = 0
 opener (call.Send s i f) = 0
 opener (call.Note s i f) = 0
 opener (call.Read s i n f) = 0
+opener (call.Export s i f) = 0
 opener (call.Stop s) = 0
 opener call.Reassign = 0
 
@@ -185,6 +189,7 @@ reads h x H e (call.Issue t p) more r s f q = let z : _≡_ {A = ℕ} 0 1 = cc i
 reads h x H e (call.Send t i g) more r s f q = let z : _≡_ {A = ℕ} 0 1 = cc in absurd (omega arith)
 reads h x H e (call.Note t i g) more r s f q = let z : _≡_ {A = ℕ} 0 1 = cc in absurd (omega arith)
 reads h x H e (call.Read t i n g) more r s f q = let z : _≡_ {A = ℕ} 0 1 = cc in absurd (omega arith)
+reads h x H e (call.Export t i g) more r s f q = let z : _≡_ {A = ℕ} 0 1 = cc in absurd (omega arith)
 reads h x H e (call.Stop t) more r s f q = let z : _≡_ {A = ℕ} 0 1 = cc in absurd (omega arith)
 reads h x H e call.Reassign more r s f q = let z : _≡_ {A = ℕ} 0 1 = cc in absurd (omega arith)
 

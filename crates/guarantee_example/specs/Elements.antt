@@ -4,6 +4,8 @@ use mathlib.Core.List.{List, [], _∷_}
 use Prim.Native.Nat.{ℕ}
 use lib.ListN.{replicate}
 use Rattle.storage.specs.Places.{recordBytes}
+use Rattle.segment.specs.declared.header.Stamp.{Stamp}
+use Rattle.segment.specs.Pair.{Files}
 use Rattle.cluster.specs.declared.Request.{Request}
 use Rattle.cluster.specs.declared.Call.{Call}
 use Rattle.cluster.specs.declared.Call.the-variants as call
@@ -11,9 +13,16 @@ use Rattle.cluster.specs.Replies.{Reply, ok}
 use Rattle.cluster.specs.Effects.{issuedFields}
 use Rattle.guarantee.specs.History.{Element, Logged}
 
+-- no list here exports
+abbrev noStamp : Stamp
+noStamp = record { time = 0; key = replicate {A = ℕ} 16 0 }
+
+abbrev noFiles : Files
+noFiles = record { dataFile = []; indexFile = [] }
+
 -- A call without data and locks. Where it opens a session replica 2 is read. No fate here reads the given bytes.
 abbrev pub plain : Call → Element
-plain c = record { input = record { call = c; content = []; locks = []; given = replicate {A = ℕ} 64 0 }; reader = 2 }
+plain c = record { input = record { call = c; content = []; locks = []; given = replicate {A = ℕ} 64 0; stamp = noStamp; files = noFiles }; reader = 2 }
 
 -- an issue by server 0 for a client with this mark
 abbrev pub request : ℕ → Request
@@ -21,7 +30,7 @@ request mark = record { mark = mark; client = 0; generation = 0; partition = 0; 
 
 abbrev pub issuing : ℕ → List ℕ → List ℕ → Element
 issuing mark locks content =
-    record { input = record { call = call.Issue 0 (request mark); content = content; locks = locks; given = [] }; reader = 0 }
+    record { input = record { call = call.Issue 0 (request mark); content = content; locks = locks; given = []; stamp = noStamp; files = noFiles }; reader = 0 }
 
 abbrev pub value : ℕ → Reply
 value n = ok (n ∷ [])

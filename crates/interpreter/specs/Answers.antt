@@ -13,6 +13,7 @@ use Rattle.cluster.specs.Replies.{ok, no}
 use Rattle.cluster.specs.Refusals.{Input}
 use Rattle.cluster.specs.Effects.{Result}
 use Rattle.cluster.specs.Step.{step}
+use Rattle.checks.specs.Results.{noFiles, noStamp}
 use Rattle.lines.specs.declared.replies.Printed.the-variants as printed
 use Rattle.lines.specs.Forms.{Meaning, bad, cluster, asked}
 use Rattle.lines.specs.Texts.{textOf, replyText}
@@ -57,9 +58,9 @@ scripted r n = record { replicas = r; places = n; interval = n }
 abbrev pub clusterLine : Shape → Held → List ℕ → List ℕ → After
 clusterLine h p m tables = cond (accepted h) (holding (replyText (ok [])) h (fresh h) m) (unchanged (replyText (no 1 [])) p m tables)
 
--- fates of a script leave no given bytes
+-- fates of a script leave no given bytes, and no line exports
 abbrev pub inputOf : Call → List ℕ → List ℕ → Input
-inputOf c content locks = record { call = c; content = content; locks = locks; given = replicate 64 0 }
+inputOf c content locks = record { call = c; content = content; locks = locks; given = replicate 64 0; stamp = noStamp; files = noFiles }
 
 -- a call's reply, and the cluster that it leaves
 abbrev pub replied : Shape → Result → List ℕ → After

@@ -17,6 +17,7 @@ use crc32::Tables;
 use lines::forms;
 use lines::forms::Line;
 use lines::replies::Printed;
+use segment::header::Stamp;
 use storage::sizes::PLACE;
 use storage::sizes::SLOTS;
 
@@ -133,6 +134,12 @@ fn call_line(
     }
     let n = size(shape);
     let given = [0u8; 64];
+    let stamp = Stamp {
+        time: 0,
+        key: [0u8; 16],
+    };
+    let mut file = [0u8; 1];
+    let mut index = [0u8; 1];
     let o = journal::apply::apply(
         shape,
         records,
@@ -142,6 +149,9 @@ fn call_line(
         content,
         locks,
         &given,
+        stamp,
+        &mut file[0..0],
+        &mut index[0..0],
     );
     let after = o.records;
     let a = o.answer;

@@ -1,14 +1,16 @@
-// Any of the eleven calls: the list of which the guarantee speaks is a list of these.
+// Any of the twelve calls: the list of which the guarantee speaks is a list of these. Only an export writes the two files.
 ghost use mathlib.Core.Path.{_≡_};
-ghost use Rattle.cluster.specs.Step.{step};
-ghost use Rattle.checks.specs.Results.{stateOf, resultOf};
+ghost use Rattle.cluster.specs.Step.{step, filesAfter};
+ghost use Rattle.checks.specs.Results.{filesOf, stateOf, besideOf, resultOf};
 use cluster::Call;
 use cluster::Outcome;
 use cluster::Records;
 use cluster::Shape;
 use replica_calls::calls;
 use replica_calls::copy;
+use replica_calls::export;
 use replica_calls::read;
+use segment::header::Stamp;
 
 pub fn apply(
     shape: Shape,
@@ -19,8 +21,11 @@ pub fn apply(
     content: &[u8],
     locks: &[u64],
     given: &[u8; 64],
+    stamp: Stamp,
+    file: &mut [u8],
+    index: &mut [u8],
 ) -> Outcome
-    ensures { λ o. ⌜ resultOf o (now (media .exit)) (now (tables .exit)) ≡ step shape (stateOf records (now (media .entry)) (now (tables .entry))) (record { call = call; content = now (content .entry); locks = now (locks .entry); given = now (given .entry) }) ⌝ }
+    ensures { λ o. ⌜ (resultOf o (now (media .exit)) (now (tables .exit)) ≡ step shape (stateOf records (now (media .entry)) (now (tables .entry))) (besideOf call (now (content .entry)) (now (locks .entry)) (now (given .entry)) stamp (now (file .entry)) (now (index .entry)))) × (filesOf (now (file .exit)) (now (index .exit)) ≡ filesAfter shape (stateOf records (now (media .entry)) (now (tables .entry))) (besideOf call (now (content .entry)) (now (locks .entry)) (now (given .entry)) stamp (now (file .entry)) (now (index .entry)))) ⌝ }
 {
     match call {
         Call::Take(s, f) => register_calls::take::take(shape, records, media, tables, s, f),
@@ -41,6 +46,19 @@ pub fn apply(
         Call::Send(s, i, f) => calls::send(shape, records, media, tables, s, i, f, given),
         Call::Note(s, i, f) => calls::note(shape, records, media, tables, s, i, f, given),
         Call::Read(s, i, n, f) => read::read(shape, records, media, tables, s, i, n, f, given),
+        Call::Export(s, i, f) => export::export(
+            shape,
+            records,
+            media,
+            tables,
+            s,
+            i,
+            stamp,
+            file,
+            index,
+            f,
+            given,
+        ),
         Call::Stop(s) => local_calls::stop::stop(shape, records, media, tables, s),
         Call::Reassign => local_calls::reassign::reassign(shape, records, media, tables),
     }

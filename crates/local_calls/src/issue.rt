@@ -14,7 +14,7 @@ ghost use Rattle.cluster.specs.Refusals.{firstOf, andThen, tooMuch, lockRow, re
 ghost use Rattle.cluster.specs.Effects.{issuedFields, issuedServer};
 ghost use Rattle.cluster.specs.Step.{step};
 ghost use Rattle.checks.specs.Verdicts.{verdictOf};
-ghost use Rattle.checks.specs.Results.{stateOf, resultOf};
+ghost use Rattle.checks.specs.Results.{noFiles, noStamp, stateOf, resultOf};
 use checks::Change;
 use checks::Check;
 use checks::also;
@@ -160,7 +160,7 @@ pub fn issue(
     content: &[u8],
     locks: &[u64],
 ) -> Outcome
-    ensures { λ o. ⌜ resultOf o (now (media .entry)) (now (tables .exit)) ≡ step shape (stateOf records (now (media .entry)) (now (tables .entry))) (record { call = call.Issue server request; content = now (content .entry); locks = now (locks .entry); given = [] }) ⌝ }
+    ensures { λ o. ⌜ resultOf o (now (media .entry)) (now (tables .exit)) ≡ step shape (stateOf records (now (media .entry)) (now (tables .entry))) (record { call = call.Issue server request; content = now (content .entry); locks = now (locks .entry); given = []; stamp = noStamp; files = noFiles }) ⌝ }
 {
     let phases = Phases {
         idle: false,

@@ -1,4 +1,5 @@
 pub mod ByKind
 pub mod Copying
+pub mod Exporting
 pub mod Known
 pub mod Reading

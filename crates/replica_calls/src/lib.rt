@@ -1,5 +1,6 @@
-// The calls that send a message to a replica: prepare, trim, note, send, copy and read. Each is admitted, checked before its message, and
-// has a replica do an operation, whose answer the server hears.
+// The calls that send a message to a replica: prepare, trim, note, send, copy, read and export. Each is admitted, checked before its message,
+// and has a replica do an operation, whose answer the server hears.
 pub mod calls;
 pub mod copy;
+pub mod export;
 pub mod read;

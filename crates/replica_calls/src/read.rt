@@ -58,7 +58,7 @@ fn check_read(shape: Shape, v: Server, i: usize, id: u64, f: Fate, given: &Place
 }
 
 // What the server makes of the answer: the place's bytes, and the mark.
-fn read_by(records: Records, s: usize, i: usize, place: Place, heard: Heard) -> Outcome
+pub fn read_by(records: Records, s: usize, i: usize, place: Place, heard: Heard) -> Outcome
     requires { ⌜ (s < 4) × (i < 7) ⌝ }
     ensures { λ o. ⌜ o ≡ readBy records s i place heard ⌝ }
 {

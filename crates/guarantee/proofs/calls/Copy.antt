@@ -24,6 +24,8 @@ use Rattle.protocol.specs.Events.{after-append, Can-copy, Steps}
 use Rattle.protocol.proofs.Columns.{upd-same, upd²-at}
 use Rattle.protocol.proofs.Facts.{unopened}
 use Rattle.protocol.proofs.Traces.{forgotten, copy-answered, copy-silent, copy-is-send}
+use Rattle.segment.specs.declared.header.Stamp.{Stamp}
+use Rattle.segment.specs.Pair.{Files}
 use Rattle.cluster.specs.declared.Shape.{Shape}
 use Rattle.cluster.specs.declared.Phase.{Phase}
 use Rattle.cluster.specs.declared.Phase.the-variants.{Opening, Open}
@@ -65,8 +67,8 @@ module _ (h : Shape) (x : State) (H : History) (σ : protocol.State) (S : Sim h 
       (rw (setAt-same (H .sessions) z (after (H .sessions z)))
       (record { opened = λ q. absurd (true≢false (sym q ∙ o)); before = λ q. ap after (S .sessions z .before o) }))
 
-module _ (h : Shape) (x : State) (H : History) (σ : protocol.State) (content locks given : List ℕ) (reader s a b : ℕ) (f : Fate)
-    (B : Before h x H σ (with-call (call.Copy s a b f) content locks given reader)) where
+module _ (h : Shape) (x : State) (H : History) (σ : protocol.State) (content locks given : List ℕ) (stamp : Stamp) (files : Files) (reader s a b : ℕ) (f : Fate)
+    (B : Before h x H σ (with-call (call.Copy s a b f) content locks given stamp files reader)) where
   S : Sim h x H σ
   S = B .sim
 
@@ -150,7 +152,7 @@ module _ (h : Shape) (x : State) (H : History) (σ : protocol.State) (content lo
 
   -- ================ an open server
 
-  open-played : v .phase ≡ Open → Played h x H σ (with-call (call.Copy s a b f) content locks given reader)
+  open-played : v .phase ≡ Open → Played h x H σ (with-call (call.Copy s a b f) content locks given stamp files reader)
   unfolding told
   open-played p =
       open-append h x H σ S (B .inv) s b f given M p active-b (H .standing a) bs accepted
@@ -275,7 +277,7 @@ module _ (h : Shape) (x : State) (H : History) (σ : protocol.State) (content lo
     goes false false n e q = ⊎-elim (λ t. forgets false n (t .1)) (λ g. silent-copied e g n)
         (append-cases h x H σ S s b f given M e bs (room e) (valid e))
 
-    opening-played : Played h x H σ (with-call (call.Copy s a b f) content locks given reader)
+    opening-played : Played h x H σ (with-call (call.Copy s a b f) content locks given stamp files reader)
     unfolding told appendEffect
     opening-played =
         let c = refusesAt (h .places) v (x .media) b in
@@ -286,5 +288,5 @@ module _ (h : Shape) (x : State) (H : History) (σ : protocol.State) (content lo
         (ap (λ (q : Phase). cond (isOpen q) (acknowledge (h .replicas) w) w) p)
         (goes c (answered f) (valueOr 0 (replyTo f (ok (cond (isOpen (v .phase)) (w .acked) mark ∷ [])))) refl refl)
 
-  pub copy-played : Played h x H σ (with-call (call.Copy s a b f) content locks given reader)
+  pub copy-played : Played h x H σ (with-call (call.Copy s a b f) content locks given stamp files reader)
   copy-played = ⊎-elim opening-played open-played (not-idle (v .phase) (B .passed 5))

@@ -23,6 +23,8 @@ use Rattle.protocol.specs.Columns.{upd}
 use Rattle.protocol.specs.Events.{Can-issue, after-issue}
 use Rattle.protocol.proofs.Columns.{upd-same, upd-other}
 use Rattle.protocol.proofs.Traces.{issue-answered}
+use Rattle.segment.specs.declared.header.Stamp.{Stamp}
+use Rattle.segment.specs.Pair.{Files}
 use Rattle.cluster.specs.declared.Shape.{Shape}
 use Rattle.cluster.specs.declared.Phase.the-variants.{Open}
 use Rattle.cluster.specs.declared.Server.{Server}
@@ -41,8 +43,8 @@ use Rattle.guarantee.proofs.Sessions.{setAt-same, setAt-other, told-iss
 use Rattle.guarantee.proofs.Facts.{open-lives}
 use Rattle.guarantee.proofs.Played.{with-call, Before, Played}
 
-module _ (h : Shape) (x : State) (H : History) (σ : protocol.State) (content locks given : List ℕ) (reader s : ℕ) (q : Request)
-    (B : Before h x H σ (with-call (call.Issue s q) content locks given reader)) where
+module _ (h : Shape) (x : State) (H : History) (σ : protocol.State) (content locks given : List ℕ) (stamp : Stamp) (files : Files) (reader s : ℕ) (q : Request)
+    (B : Before h x H σ (with-call (call.Issue s q) content locks given stamp files reader)) where
   S : Sim h x H σ
   S = B .sim
 
@@ -94,7 +96,7 @@ module _ (h : Shape) (x : State) (H : History) (σ : protocol.State) (content lo
   can =
       record {
         phase = row .phase;
-        free = λ k m. omega (arith, row .estimate k, aware h x s q content locks given (B .passes) k m);
+        free = λ k m. omega (arith, row .estimate k, aware h x s q content locks given stamp files (B .passes) k m);
         rises = λ k. omega (arith, row .estimate k, rises table locks n k (below k));
         enters = λ k m. omega (arith, next, enters table locks n k size m);
       }
@@ -207,7 +209,7 @@ module _ (h : Shape) (x : State) (H : History) (σ : protocol.State) (content lo
       session-frame (H .sessions) (K z n (loggedOf tx) .sessions) (storyOf σ) (storyOf τ) (S .sessions) z
       (λ u d. setAt-other (H .sessions) z _ u d) stories session
 
-  pub issue-played : Played h x H σ (with-call (call.Issue s q) content locks given reader)
+  pub issue-played : Played h x H σ (with-call (call.Issue s q) content locks given stamp files reader)
   unfolding issueEffect told
   issue-played = (
     τ,

@@ -11,6 +11,8 @@ use Rattle.storage.specs.Log.{markOf}
 use Rattle.storage.specs.Operations.{mediumAt, noteWrites}
 use Rattle.protocol.specs.State as protocol
 use Rattle.protocol.specs.Events.{Steps}
+use Rattle.segment.specs.declared.header.Stamp.{Stamp}
+use Rattle.segment.specs.Pair.{Files}
 use Rattle.cluster.specs.declared.Shape.{Shape}
 use Rattle.cluster.specs.declared.Server.{Server}
 use Rattle.cluster.specs.declared.Call.the-variants as call
@@ -26,8 +28,8 @@ use Rattle.guarantee.proofs.Messages.{Message, message-of, agrees, acce
 use Rattle.guarantee.proofs.Hearing.{open-kept}
 use Rattle.guarantee.proofs.Played.{with-call, Before, Played}
 
-module _ (h : Shape) (x : State) (H : History) (σ : protocol.State) (content locks given : List ℕ) (reader s i : ℕ) (f : Fate)
-    (B : Before h x H σ (with-call (call.Note s i f) content locks given reader)) where
+module _ (h : Shape) (x : State) (H : History) (σ : protocol.State) (content locks given : List ℕ) (stamp : Stamp) (files : Files) (reader s i : ℕ) (f : Fate)
+    (B : Before h x H σ (with-call (call.Note s i f) content locks given stamp files reader)) where
   S : Sim h x H σ
   S = B .sim
 
@@ -76,6 +78,6 @@ module _ (h : Shape) (x : State) (H : History) (σ : protocol.State) (content lo
         sessions = S .sessions;
       }
 
-  pub note-played : Played h x H σ (with-call (call.Note s i f) content locks given reader)
+  pub note-played : Played h x H σ (with-call (call.Note s i f) content locks given stamp files reader)
   unfolding told
   note-played = (σ, Steps.none, noted)

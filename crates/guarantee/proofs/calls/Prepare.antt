@@ -10,6 +10,8 @@ use borrow.Author.Tests.{ltb-false}
 use Rattle.base.proofs.Tests.{neither}
 use Rattle.fate.specs.declared.Fate.{Fate}
 use Rattle.storage.specs.declared.operation.Target.{Target}
+use Rattle.segment.specs.declared.header.Stamp.{Stamp}
+use Rattle.segment.specs.Pair.{Files}
 use Rattle.cluster.specs.declared.Closing.{Closing}
 use Rattle.cluster.specs.declared.Closing.the-variants.{Unresolved, Mark}
 use Rattle.storage.specs.Slots.{storedSlot}
@@ -45,8 +47,8 @@ closed-mark : (to : Closing) (n : ℕ) → isUnresolved to ≡ false → (c : �
 closed-mark Unresolved n e = absurd (true≢false e)
 closed-mark (Mark c) n e = (c, refl, omega arith)
 
-module _ (h : Shape) (x : State) (H : History) (σ : protocol.State) (content locks given : List ℕ) (reader s i : ℕ) (f : Fate)
-    (B : Before h x H σ (with-call (call.Prepare s i f) content locks given reader)) where
+module _ (h : Shape) (x : State) (H : History) (σ : protocol.State) (content locks given : List ℕ) (stamp : Stamp) (files : Files) (reader s i : ℕ) (f : Fate)
+    (B : Before h x H σ (with-call (call.Prepare s i f) content locks given stamp files reader)) where
   S : Sim h x H σ
   S = B .sim
 
@@ -158,6 +160,6 @@ module _ (h : Shape) (x : State) (H : History) (σ : protocol.State) (content lo
       ))
       (prepared-tie (h .places) f given m (H .standing i) (copyOf σ i) T (M .harmless) z to (stored e) session-fits)
 
-  pub prepare-played : Played h x H σ (with-call (call.Prepare s i f) content locks given reader)
+  pub prepare-played : Played h x H σ (with-call (call.Prepare s i f) content locks given stamp files reader)
   unfolding told prepareEffect
   prepare-played = goes (refusesPrepare z m) (answered f) refl refl

@@ -4,6 +4,8 @@ use mathlib.Core.List.{List}
 use Prim.Native.Nat.{ℕ}
 use Rattle.protocol.specs.State as protocol
 use Rattle.protocol.specs.Events.{Steps}
+use Rattle.segment.specs.declared.header.Stamp.{Stamp}
+use Rattle.segment.specs.Pair.{Files}
 use Rattle.cluster.specs.declared.Shape.{Shape}
 use Rattle.cluster.specs.declared.Call.the-variants as call
 use Rattle.cluster.specs.State.{State}
@@ -12,8 +14,8 @@ use Rattle.guarantee.specs.History.{History, told}
 use Rattle.guarantee.proofs.Ties.{RegisterTie, Sim}
 use Rattle.guarantee.proofs.Played.{with-call, Before, Played}
 
-module _ (h : Shape) (x : State) (H : History) (σ : protocol.State) (content locks given : List ℕ) (reader : ℕ)
-    (B : Before h x H σ (with-call call.Reassign content locks given reader)) where
+module _ (h : Shape) (x : State) (H : History) (σ : protocol.State) (content locks given : List ℕ) (stamp : Stamp) (files : Files) (reader : ℕ)
+    (B : Before h x H σ (with-call call.Reassign content locks given stamp files reader)) where
   S : Sim h x H σ
   S = B .sim
 
@@ -35,6 +37,6 @@ module _ (h : Shape) (x : State) (H : History) (σ : protocol.State) (content lo
   reassigned =
       record { R = S .R; Q = S .Q; register = register; replicas = S .replicas; servers = S .servers; sessions = S .sessions }
 
-  pub reassign-played : Played h x H σ (with-call call.Reassign content locks given reader)
+  pub reassign-played : Played h x H σ (with-call call.Reassign content locks given stamp files reader)
   unfolding reassignEffect told
   reassign-played = (σ, Steps.none, reassigned)

@@ -10,6 +10,8 @@ use borrow.Author.Tests.{eqb-true, not-false}
 use Rattle.fate.specs.declared.Fate.{Fate}
 use Rattle.storage.specs.Operations.{mediumAt}
 use Rattle.protocol.specs.State as protocol
+use Rattle.segment.specs.declared.header.Stamp.{Stamp}
+use Rattle.segment.specs.Pair.{Files}
 use Rattle.cluster.specs.declared.Shape.{Shape}
 use Rattle.cluster.specs.declared.Phase.the-variants.{Open}
 use Rattle.cluster.specs.declared.Server.{Server}
@@ -26,8 +28,8 @@ use Rattle.guarantee.proofs.Hearing.{of-member}
 use Rattle.guarantee.proofs.Appending.{Appendable, open-append}
 use Rattle.guarantee.proofs.Played.{with-call, Before, Played}
 
-module _ (h : Shape) (x : State) (H : History) (σ : protocol.State) (content locks given : List ℕ) (reader s i : ℕ) (f : Fate)
-    (B : Before h x H σ (with-call (call.Send s i f) content locks given reader)) where
+module _ (h : Shape) (x : State) (H : History) (σ : protocol.State) (content locks given : List ℕ) (stamp : Stamp) (files : Files) (reader s i : ℕ) (f : Fate)
+    (B : Before h x H σ (with-call (call.Send s i f) content locks given stamp files reader)) where
   S : Sim h x H σ
   S = B .sim
 
@@ -113,7 +115,7 @@ module _ (h : Shape) (x : State) (H : History) (σ : protocol.State) (content lo
           whose = issued;
         }
 
-  pub send-played : Played h x H σ (with-call (call.Send s i f) content locks given reader)
+  pub send-played : Played h x H σ (with-call (call.Send s i f) content locks given stamp files reader)
   unfolding told
   send-played =
       open-append h x H σ S (B .inv) s i f given M opened active issues (v .held)

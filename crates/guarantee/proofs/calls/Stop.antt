@@ -5,6 +5,8 @@ use Prim.Native.Nat.{ℕ}
 use lib.ListN.{set}
 use Rattle.protocol.specs.State as protocol
 use Rattle.protocol.specs.Events.{Steps}
+use Rattle.segment.specs.declared.header.Stamp.{Stamp}
+use Rattle.segment.specs.Pair.{Files}
 use Rattle.cluster.specs.declared.Shape.{Shape}
 use Rattle.cluster.specs.declared.Call.the-variants as call
 use Rattle.cluster.specs.State.{State, idleServer}
@@ -15,8 +17,8 @@ use Rattle.guarantee.proofs.Ties.{rowOf, ServersTie, Sim}
 use Rattle.guarantee.proofs.Frames.{elsewhere, idle-frame}
 use Rattle.guarantee.proofs.Played.{with-call, Before, Played}
 
-module _ (h : Shape) (x : State) (H : History) (σ : protocol.State) (content locks given : List ℕ) (reader s : ℕ)
-    (B : Before h x H σ (with-call (call.Stop s) content locks given reader)) where
+module _ (h : Shape) (x : State) (H : History) (σ : protocol.State) (content locks given : List ℕ) (stamp : Stamp) (files : Files) (reader s : ℕ)
+    (B : Before h x H σ (with-call (call.Stop s) content locks given stamp files reader)) where
   S : Sim h x H σ
   S = B .sim
 
@@ -29,6 +31,6 @@ module _ (h : Shape) (x : State) (H : History) (σ : protocol.State) (content lo
   unfolding stopEffect
   stopped = record { R = S .R; Q = S .Q; register = S .register; replicas = S .replicas; servers = T; sessions = S .sessions }
 
-  pub stop-played : Played h x H σ (with-call (call.Stop s) content locks given reader)
+  pub stop-played : Played h x H σ (with-call (call.Stop s) content locks given stamp files reader)
   unfolding stopEffect told
   stop-played = (σ, Steps.none, stopped)

@@ -14,6 +14,8 @@ use Rattle.protocol.specs.State as protocol
 use Rattle.protocol.specs.Events.{after-take, Steps}
 use Rattle.protocol.proofs.Columns.{upd-same, upd-other}
 use Rattle.protocol.proofs.Traces.{take-answered}
+use Rattle.segment.specs.declared.header.Stamp.{Stamp}
+use Rattle.segment.specs.Pair.{Files}
 use Rattle.cluster.specs.declared.Shape.{Shape}
 use Rattle.cluster.specs.declared.Register.{Register}
 use Rattle.cluster.specs.declared.Phase.the-variants.{Opening}
@@ -30,8 +32,8 @@ use Rattle.guarantee.proofs.Frames.{Elsewhere, server-frame, idle-frame
 use Rattle.guarantee.proofs.Facts.{at-most-seven, next-alone}
 use Rattle.guarantee.proofs.Played.{with-call, Before, Played}
 
-module _ (h : Shape) (x : State) (H : History) (σ : protocol.State) (content locks given : List ℕ) (reader s : ℕ) (f : Fate)
-    (B : Before h x H σ (with-call (call.Take s f) content locks given reader)) where
+module _ (h : Shape) (x : State) (H : History) (σ : protocol.State) (content locks given : List ℕ) (stamp : Stamp) (files : Files) (reader s : ℕ) (f : Fate)
+    (B : Before h x H σ (with-call (call.Take s f) content locks given stamp files reader)) where
   S : Sim h x H σ
   S = B .sim
 
@@ -147,16 +149,16 @@ module _ (h : Shape) (x : State) (H : History) (σ : protocol.State) (content lo
           sessions = S .sessions;
         }
 
-pub take-played : (h : Shape) (x : State) (H : History) (σ : protocol.State) (content locks given : List ℕ) (reader s : ℕ) (f : Fate)
-    → Before h x H σ (with-call (call.Take s f) content locks given reader) → Played h x H σ (with-call (call.Take s f) content locks given reader)
+pub take-played : (h : Shape) (x : State) (H : History) (σ : protocol.State) (content locks given : List ℕ) (stamp : Stamp) (files : Files) (reader s : ℕ) (f : Fate)
+    → Before h x H σ (with-call (call.Take s f) content locks given stamp files reader) → Played h x H σ (with-call (call.Take s f) content locks given stamp files reader)
 unfolding takeEffect told
-take-played h x H σ content locks given reader s Answered B =
-    rw (B .passed 21) (after-take σ, take-answered σ, answered h x H σ content locks given reader s Answered B (B .passed 21))
-take-played h x H σ content locks given reader s Lost B = (σ, Steps.none, lost h x H σ content locks given reader s Lost B (H .current s))
-take-played h x H σ content locks given reader s AnswerLost B = go (sessionAtTop (x .records .register .session)) refl
+take-played h x H σ content locks given stamp files reader s Answered B =
+    rw (B .passed 21) (after-take σ, take-answered σ, answered h x H σ content locks given stamp files reader s Answered B (B .passed 21))
+take-played h x H σ content locks given stamp files reader s Lost B = (σ, Steps.none, lost h x H σ content locks given stamp files reader s Lost B (H .current s))
+take-played h x H σ content locks given stamp files reader s AnswerLost B = go (sessionAtTop (x .records .register .session)) refl
   where
     go : (b : Bool) → sessionAtTop (x .records .register .session) ≡ b
-        → Played h x H σ (with-call (call.Take s AnswerLost) content locks given reader)
-    go true e = rw e (σ, Steps.none, lost h x H σ content locks given reader s AnswerLost B (H .current s))
-    go false e = rw e (after-take σ, take-answered σ, unanswered h x H σ content locks given reader s AnswerLost B e (H .current s))
-take-played h x H σ content locks given reader s (Cut w l) B = absurd (true≢false (B .passed 6))
+        → Played h x H σ (with-call (call.Take s AnswerLost) content locks given stamp files reader)
+    go true e = rw e (σ, Steps.none, lost h x H σ content locks given stamp files reader s AnswerLost B (H .current s))
+    go false e = rw e (after-take σ, take-answered σ, unanswered h x H σ content locks given stamp files reader s AnswerLost B e (H .current s))
+take-played h x H σ content locks given stamp files reader s (Cut w l) B = absurd (true≢false (B .passed 6))

@@ -15,6 +15,8 @@ use Rattle.protocol.specs.Columns.{upd²}
 use Rattle.protocol.specs.Events.{after-forget, after-trim, Can-trim}
 use Rattle.protocol.proofs.Columns.{upd-same, upd-other, upd²-at}
 use Rattle.protocol.proofs.Traces.{trim-answered, trim-silent}
+use Rattle.segment.specs.declared.header.Stamp.{Stamp}
+use Rattle.segment.specs.Pair.{Files}
 use Rattle.cluster.specs.declared.Shape.{Shape}
 use Rattle.cluster.specs.declared.Phase.the-variants.{Opening}
 use Rattle.cluster.specs.declared.Server.{Server}
@@ -32,8 +34,8 @@ use Rattle.guarantee.proofs.Messages.{Message, message-of, agrees, acce
 use Rattle.guarantee.proofs.Hearing.{only-none, only-set, opening-told, opening-forgets, opening-silent}
 use Rattle.guarantee.proofs.Played.{with-call, Before, Played}
 
-module _ (h : Shape) (x : State) (H : History) (σ : protocol.State) (content locks given : List ℕ) (reader s i : ℕ) (f : Fate)
-    (B : Before h x H σ (with-call (call.Trim s i f) content locks given reader)) where
+module _ (h : Shape) (x : State) (H : History) (σ : protocol.State) (content locks given : List ℕ) (stamp : Stamp) (files : Files) (reader s i : ℕ) (f : Fate)
+    (B : Before h x H σ (with-call (call.Trim s i f) content locks given stamp files reader)) where
   S : Sim h x H σ
   S = B .sim
 
@@ -136,6 +138,6 @@ module _ (h : Shape) (x : State) (H : History) (σ : protocol.State) (content lo
     },
   )
 
-  pub trim-played : Played h x H σ (with-call (call.Trim s i f) content locks given reader)
+  pub trim-played : Played h x H σ (with-call (call.Trim s i f) content locks given stamp files reader)
   unfolding told trimEffect
   trim-played = goes (refusesAt (h .places) v (x .media) i) (answered f) refl refl

@@ -1,9 +1,12 @@
 -- `answer::call_line`: a shape that passed is accepted.
 -- Assumes nothing.
 use mathlib.Core.Path.{sym, _∙_}
+use Prim.Native.Nat.{_-_}
+use native.Mathlib.Omega.{arith}
 use borrow.Author.Tests.{not-true, not-false}
+use Rattle.octets.proofs.Laws.{length-part}
 use Rattle.interpreter.specs.Answers.{inputOf}
-use Rattle.interpreter.proofs.Answers.{early-call, made-call}
+use Rattle.interpreter.proofs.Answers.{sub-none, early-call, made-call}
 use borrow.Author.Needs.{needs}
 use Rattle.interpreter.proofs.answer.call_line.Statement.{statement}
 use Rattle.interpreter.proofs.answer.call_line.Tie as tie
@@ -28,6 +31,24 @@ part-apply-start c = search needs
 part-apply-end : tie.Need-part-apply-end
 part-apply-end c = search needs
 
+sub-apply-2 : tie.Need-sub-apply-2
+sub-apply-2 c = search needs
+
+part-file-start : tie.Need-part-file-start
+part-file-start c = search needs
+
+part-file-end : tie.Need-part-file-end
+part-file-end c = search needs
+
+sub-apply-3 : tie.Need-sub-apply-3
+sub-apply-3 c = search needs
+
+part-index-start : tie.Need-part-index-start
+part-index-start c = search needs
+
+part-index-end : tie.Need-part-index-end
+part-index-end c = search needs
+
 apply-requires : tie.Need-apply-requires
 apply-requires c κs = search needs
 
@@ -39,12 +60,13 @@ same-length-2 c = search needs
 
 returns-2 : tie.Need-returns-2
 returns-2 c =
-    let a = c .before .before .before .before .before .before .before .before .before .before .before .before .before .before .before .before .before .before .args in
-    let r = c .before .before .before .before .before .apply in
-    let z = c .before .before .before .before .before .before .before .before .before .size in
-    let e = sym (c .before .before .before .before .before .before .before .before .before .before .before .is-accepted .ensures) ∙ not-false _ (c .before .before .before .before .before .before .before .before .before .before .if1 .left) in
+    let a = c .before .before .before .before .before .before .before .before .before .before .before .before .before .before .before .before .before .before .before .before .before .before .args in
+    let r = c .before .before .before .before .before .before .before .apply in
+    let z = c .before .before .before .before .before .before .before .before .before .before .before .before .before .size in
+    let e = sym (c .before .before .before .before .before .before .before .before .before .before .before .before .before .before .before .is-accepted .ensures) ∙ not-false _ (c .before .before .before .before .before .before .before .before .before .before .before .before .before .before .if1 .left) in
+    let l = r .kept .1 .1 .0 ∙ length-part 0 (z .result - 0) (a .m .now) (omega (arith, c .before .before .before .before .before .before .before .before .before .before .before .before .before .before .before .before .before .before .before .before .before .before .pre, z .ensures .1)) ∙ sub-none (z .result) in
     made-call (inputOf (a .call) (a .content .now) (a .locks .now)) (a .h) (a .m .now) (a .tables .now) (r .last .1 .1 .0) (r .last .1 .1 .1 .0) (z .result) (r .result) e
-    (z .ensures .0) (search needs) (r .ensures)
+    (z .ensures .0) l (r .ensures .0)
 
 pub call-line-spec : {M : Type 1} → statement M
 call-line-spec =
@@ -56,6 +78,12 @@ call-line-spec =
     sub-apply
     part-apply-start
     part-apply-end
+    sub-apply-2
+    part-file-start
+    part-file-end
+    sub-apply-3
+    part-index-start
+    part-index-end
     apply-requires
     same-length
     same-length-2

@@ -1,7 +1,8 @@
-//! A cluster and its eleven calls, on any state that is handed in.
+//! A cluster and its twelve calls, on any state that is handed in.
 
 mod call;
 mod checks;
+mod export;
 mod issue;
 mod register_calls;
 mod replica_calls;
@@ -9,7 +10,5 @@ mod reply;
 mod state;
 
 pub use call::{Call, Message, Request};
-pub use reply::{Answer, Refusal, Reply, BY_RECEIVER, ORDER};
-pub use state::{
-    Cluster, Entry, Phase, Records, Register, Server, Shape, Standing, MOST_PLACES, SERVERS,
-};
+pub use reply::{first_row, Answer, Refusal, Reply, BY_RECEIVER, FILES_ROW, ORDER};
+pub use state::{Cluster, Entry, Phase, Records, Register, Server, Shape, Standing, SERVERS};

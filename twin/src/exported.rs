@@ -1,8 +1,7 @@
 //! The two calls that a C host may make directly.
 
-use crate::cluster::MOST_PLACES;
 use crate::locks::{lock_places, TABLE_MARKS};
-use crate::medium::{is_place, PLACE_BYTES};
+use crate::medium::{is_place, MOST_PLACES, PLACE_BYTES};
 
 /// 1 if the bytes are a valid place of this number, otherwise 0, also for another length or a
 /// number outside its values.

@@ -5,10 +5,11 @@
 
 mod stage;
 
-use crate::cluster::{Call, Cluster, Entry};
+use crate::cluster::{Answer, Call, Cluster, Entry};
 use crate::crc::crc32;
 use crate::fate::Fate;
 use crate::medium;
+use crate::segment::{self, Pair, Stamp};
 use stage::{filled, issue, make, message, prepare_all};
 
 /// The bytes whose CRC is taken.
@@ -27,6 +28,8 @@ fn answer(line: &str) -> Option<String> {
         "send" => send,
         "prepare" => prepare,
         "open" => open,
+        "export" => export,
+        "import" => import,
         _ => return None,
     };
     Some(job(count.parse().ok()?).to_string())
@@ -56,12 +59,11 @@ fn send(count: u64) -> u64 {
     let mut cluster = filled(999);
     issue(&mut cluster);
     let ready = cluster.records;
-    let call = Call::Send { server: 0, replica: 0, message: message() };
     total(count, |_| {
         let last = medium::place_at(1000);
         cluster.medium_mut(0)[last..].fill(0);
         cluster.records = ready;
-        make(&mut cluster, &call)
+        make(&mut cluster, Call::Send { server: 0, replica: 0, message: message() })
     })
 }
 
@@ -70,14 +72,13 @@ fn send(count: u64) -> u64 {
 fn prepare(count: u64) -> u64 {
     let mut cluster = filled(1000);
     let full = cluster.medium(0).to_vec();
-    make(&mut cluster, &Call::Take { server: 1, fate: Fate::Answered });
+    make(&mut cluster, Call::Take { server: 1, fate: Fate::Answered });
     cluster.records.servers[1].entries[0] = Entry { session: 1, closing: Some(500) };
     let ready = cluster.records;
-    let call = Call::Prepare { server: 1, replica: 0, message: message() };
     total(count, |_| {
         cluster.medium_mut(0).copy_from_slice(&full);
         cluster.records = ready;
-        make(&mut cluster, &call)
+        make(&mut cluster, Call::Prepare { server: 1, replica: 0, message: message() })
     })
 }
 
@@ -88,7 +89,36 @@ fn open(count: u64) -> u64 {
     let ready = cluster.records;
     total(count, |_| {
         cluster.records = ready;
-        make(&mut cluster, &Call::Open { server: 1, fate: Fate::Answered })
+        make(&mut cluster, Call::Open { server: 1, fate: Fate::Answered })
+    })
+}
+
+/// One export of a member that holds 1,000 places. The time handed in is the number of turns left; what
+/// counts is its lowest byte in the data file and the last byte of the index file.
+fn export(count: u64) -> u64 {
+    let mut cluster = filled(1000);
+    let mut files = Pair::filled(segment::lengths(cluster.medium(0), 1000), 0);
+    total(count, |left| {
+        let stamp = Stamp { time: left, ..Stamp::default() };
+        let reply = cluster.export(0, 0, stamp, &mut files, &message());
+        assert_eq!(reply, Ok(Answer::Nothing));
+        u64::from(files.data[11]) + u64::from(files.index[files.index.len() - 1])
+    })
+}
+
+/// One import of that pair into a wiped medium. What counts is the lowest byte of the ID in place 1,000;
+/// the places are wiped after each, which counts too.
+fn import(count: u64) -> u64 {
+    let stamp = Stamp::default();
+    let pair = segment::written(filled(1000).medium(0), 1000, stamp);
+    let mut medium = vec![0; medium::medium_bytes(1000)];
+    total(count, |left| {
+        medium[0] = left as u8;
+        let reply = segment::import(1000, &mut medium, stamp, &pair.data, &pair.index);
+        assert_eq!(reply, Ok(()));
+        let byte = medium[medium::place_at(1000) + 7];
+        medium[medium::SLOTS_BYTES..].fill(0);
+        u64::from(byte)
     })
 }
 

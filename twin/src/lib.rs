@@ -2,10 +2,12 @@
 //! proved one is compared with. Lowest layer first.
 
 pub mod crc;
+pub mod decimal;
 pub mod hex;
 pub mod random;
 
 pub mod medium;
+pub mod segment;
 
 pub mod replica;
 

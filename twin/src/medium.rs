@@ -30,6 +30,9 @@ pub const LENGTH_AT: usize = 28;
 pub const DATA_AT: usize = 32;
 pub const PLACE_CHECK_AT: usize = PLACE_BYTES - CHECK_BYTES;
 
+/// The most places that a medium has.
+pub const MOST_PLACES: u64 = 1000;
+
 /// The most data bytes that a record holds.
 pub const DATA_LIMIT: usize = PLACE_CHECK_AT - DATA_AT;
 
@@ -121,15 +124,21 @@ impl<'a> Record<'a> {
             && length <= DATA_LIMIT
             && all_zero(&bytes[DATA_AT + length..PLACE_CHECK_AT])
             && is_sealed(bytes);
-        valid.then(|| Record {
-            id: number,
+        valid.then(|| Record::of_valid(bytes))
+    }
+
+    /// The record in the bytes of a place that is known to be valid: its check is not computed again.
+    pub fn of_valid(bytes: &'a [u8]) -> Record<'a> {
+        let length = be32(bytes, LENGTH_AT) as usize;
+        Record {
+            id: be64(bytes, ID_AT),
             client: be32(bytes, CLIENT_AT),
             generation: be32(bytes, GENERATION_AT),
             partition: be32(bytes, PARTITION_AT),
             sequence: be32(bytes, SEQUENCE_AT),
             header: be32(bytes, HEADER_AT),
             data: &bytes[DATA_AT..DATA_AT + length],
-        })
+        }
     }
 }
 
@@ -153,6 +162,11 @@ pub fn current(medium: &[u8]) -> Option<(usize, Slot)> {
         (None, Some(second)) => Some((1, second)),
         (None, None) => None,
     }
+}
+
+/// The bytes of each place, from place 1 on.
+pub fn places(medium: &[u8]) -> impl Iterator<Item = &[u8]> {
+    medium[SLOTS_BYTES..].chunks_exact(PLACE_BYTES)
 }
 
 /// The 64 bytes of place `number`, from 1 to the medium's number of places.
@@ -194,11 +208,11 @@ pub fn put(bytes: &mut [u8], at: usize, part: &[u8]) {
     bytes[at..at + part.len()].copy_from_slice(part);
 }
 
-fn be32(bytes: &[u8], at: usize) -> u32 {
+pub(crate) fn be32(bytes: &[u8], at: usize) -> u32 {
     u32::from_be_bytes(bytes[at..at + 4].try_into().expect("four bytes"))
 }
 
-fn be64(bytes: &[u8], at: usize) -> u64 {
+pub(crate) fn be64(bytes: &[u8], at: usize) -> u64 {
     u64::from_be_bytes(bytes[at..at + 8].try_into().expect("eight bytes"))
 }
 

@@ -1,4 +1,4 @@
-//! A run of all eleven calls for the proved journal: lines that hand in state or make a call, and
+//! A run of all twelve calls for the proved journal: lines that hand in state or make a call, and
 //! what this implementation replies.
 //!
 //! A line is a command word and its fields with a tab before each; numbers in base ten, bytes as
@@ -25,19 +25,24 @@
 //! may be any, and so may all three of a shape line.
 //!
 //! ENTRY stands for three fields: session; 0 if unresolved, else 1; the closing mark. The calls are
-//! take, prepare, copy, trim, open, issue, send, note, read, stop and reassign with their numbers
-//! in document 01's order (issue: server, client's mark, client, generation, partition, sequence,
-//! header), then those of the fate: 0 answered, 1 lost, 2 answer lost or 3 cut; the write w; 0 old,
-//! 1 new or 2 torn.
+//! take, prepare, copy, trim, open, issue, send, note, read, export, stop and reassign with their
+//! numbers in document 01's order (issue: server, client's mark, client, generation, partition,
+//! sequence, header; export: server, replica), then those of the fate: 0 answered, 1 lost, 2 answer
+//! lost or 3 cut; the write w; 0 old, 1 new or 2 torn. Behind the fate an export has the time, the
+//! lengths at which data and index file are lent, up to 1,200 and 300 bytes, and the key, 16 BYTES.
+//! Each byte of both files is AA before the call.
 //!
 //! A call prints ok with its value if it has one, no with the number (and lock and estimate behind
 //! 15), or silent; behind that the 64 bytes that read answers; then three check sums (CRC-32, 8
-//! digits): of the records (see `sums`), of the media and of the lock tables as lent. A line that
-//! fits no form prints bad.
+//! digits): of the records (see `sums`), of the media and of the lock tables as lent; and behind an
+//! export those of data and index file. A line that fits no form prints bad.
 
 mod counts;
+mod export_scenes;
+mod exports;
 mod list;
 mod locks;
+mod names;
 mod random_states;
 mod recorder;
 mod scenes;
@@ -47,7 +52,8 @@ mod texts;
 
 use crate::random::Random;
 
-pub use counts::{Counts, CALLS, ESTIMATES, FATES, INTERVALS};
+pub use counts::{Counts, CALLS};
+pub use names::{ENDS, ESTIMATES, FATES, INTERVALS};
 
 /// The stored run: its lines, what they print, and what it meets.
 pub struct Run {

@@ -63,7 +63,7 @@ impl Program {
         self.line.clear();
         let reply = match (form, &mut self.cluster) {
             (Some(Form::Cluster(shape)), _) => self.start(shape),
-            (Some(Form::Call(call)), Some(cluster)) => reply_text(cluster.apply(&call)),
+            (Some(Form::Call(mut call)), Some(cluster)) => reply_text(cluster.apply(&mut call)),
             _ => "bad".to_string(),
         };
         output.extend_from_slice(reply.as_bytes());

@@ -1,10 +1,14 @@
 //! Calls and states to try: lists of calls that get somewhere, scenes with faults, issue around the
-//! interval and around the client's mark, random states.
+//! interval and around the client's mark, exports with files of any length, imports of pairs
+//! whole and spoilt, random states.
 
 pub mod caller;
 pub mod checkpoint;
 pub mod clients;
+pub mod exports;
 pub mod faults;
+pub mod import_rows;
+pub mod imports;
 pub mod scene;
 pub mod states;
 pub mod useful;

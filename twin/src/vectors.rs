@@ -21,11 +21,23 @@
 //!
 //! prepare and note come with a valid slot, prepare with a promise not above the session, append
 //! with a mark below N.
+//!
+//! Segment files have two commands. KEY is 16 BYTES.
+//!
+//! | command | fields | answer |
+//! |---|---|---|
+//! | pair | time, KEY, N, MEDIUM | its whole log written out: the data file's BYTES, the index file's |
+//! | import | N, time, KEY, BYTES of the medium, of the data file and of the index file | ok or no and the number; the check of the medium after it, 8 digits |
+//!
+//! A line has at most 2,000 bytes and the MEDIUM of at most 14 places; import takes any N and any bytes,
+//! also none. A line that fits no form is answered with bad.
 
 mod answers;
 mod cases;
+mod fields;
 mod published;
+mod segments;
 
-pub use answers::output;
+pub use answers::{output, LINE_LIMIT};
 pub use cases::input;
 pub use published::PUBLISHED;

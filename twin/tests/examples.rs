@@ -44,7 +44,7 @@ fn ask(entry: u64, client_mark: u64) -> Result<Answer, Refusal> {
     server.standings[0] = Standing::In;
     (server.starting, server.issued, server.acknowledged) = (6, 6, 6);
     let request = Request { client_mark, locks: vec![1], ..Request::default() };
-    cluster.apply(&Call::Issue { server: 0, request })
+    cluster.apply(&mut Call::Issue { server: 0, request })
 }
 
 #[test]

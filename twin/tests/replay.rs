@@ -1,24 +1,25 @@
 //! The stored run of the replay program is what this implementation gives, and it meets every call,
-//! refusal, fate and kind of interval, and locks on both sides of the client's mark.
+//! refusal, fate and kind of interval, locks on both sides of the client's mark, and every end of an
+//! exported log.
 
 mod stored;
 
-use twin::cluster::ORDER;
-use twin::replay::{self, CALLS, ESTIMATES, FATES, INTERVALS};
+use twin::cluster::{first_row, FILES_ROW, ORDER};
+use twin::replay::{self, CALLS, ENDS, ESTIMATES, FATES, INTERVALS};
 
 /// Calls without a message, and those whose message goes to the register.
 const LOCAL: [&str; 3] = ["issue", "stop", "reassign"];
 const TO_REGISTER: [&str; 2] = ["take", "open"];
 
-/// The calls that the list of documents 01 and 02 can decline with each number.
+/// The calls that each row of the list of documents 01 and 02 can decline.
 const DECLINED: [(u64, &[&str]); ORDER.len()] = [
     (1, &CALLS),
     (2, &CALLS),
-    (3, &["take", "prepare", "copy", "trim", "open", "issue", "send", "note", "read", "stop"]),
-    (4, &["prepare", "copy", "trim", "send", "note", "read"]),
-    (5, &["take", "prepare", "copy", "trim", "open", "issue", "send", "note", "read"]),
-    (6, &["take", "prepare", "copy", "trim", "open", "send", "note", "read"]),
-    (7, &["copy", "trim", "send", "note", "read"]),
+    (3, CALLS.split_last().expect("reassign names no server").1),
+    (4, &["prepare", "copy", "trim", "send", "note", "read", "export"]),
+    (5, &["take", "prepare", "copy", "trim", "open", "issue", "send", "note", "read", "export"]),
+    (6, &["take", "prepare", "copy", "trim", "open", "send", "note", "read", "export"]),
+    (7, &["copy", "trim", "send", "note", "read", "export"]),
     (8, &["trim", "open"]),
     (9, &["open"]),
     (10, &["issue"]),
@@ -30,9 +31,10 @@ const DECLINED: [(u64, &[&str]); ORDER.len()] = [
     (15, &["issue"]),
     (16, &["copy", "trim", "send", "read"]),
     (17, &["copy"]),
-    (18, &["prepare", "copy", "trim", "send", "note", "read"]),
-    (19, &["prepare", "copy", "trim", "send", "note", "read"]),
-    (20, &["copy", "trim", "send", "note", "read"]),
+    (18, &["prepare", "copy", "trim", "send", "note", "read", "export"]),
+    (19, &["prepare", "copy", "trim", "send", "note", "read", "export"]),
+    (20, &["copy", "trim", "send", "note", "read", "export"]),
+    (1, &["export"]),
     (21, &["take", "reassign"]),
     (22, &["open"]),
 ];
@@ -48,9 +50,10 @@ fn stored_files_are_what_the_seed_gives() {
 fn every_call_meets_just_the_refusals_of_the_list() {
     let counts = replay::run().counts;
     println!("{counts}");
-    for (number, declined) in DECLINED {
+    assert_eq!(DECLINED.map(|(number, _)| number), ORDER);
+    for (row, (number, declined)) in DECLINED.into_iter().enumerate() {
         for call in CALLS {
-            let met = counts.refused(call, number) > 0;
+            let met = counts.refused(call, row) > 0;
             assert_eq!(met, declined.contains(&call), "{call}, number {number}");
         }
     }
@@ -94,7 +97,7 @@ fn every_call_gets_every_kind_of_interval() {
 #[test]
 fn sessions_are_opened_after_the_interval_asks_for_one() {
     let counts = replay::run().counts;
-    assert!(counts.refused("issue", 23) > 50);
+    assert!(counts.refused("issue", first_row(23)) > 50);
     assert!(counts.forced() > 20);
 }
 
@@ -105,13 +108,24 @@ fn locks_are_asked_for_around_the_clients_mark() {
     let met = ESTIMATES.map(|name| counts.estimate(name));
     let [below, one_below, at, one_above, above] = met;
     assert!(below > 0 && one_below > 10 && at > 80 && one_above > 30 && above > 10, "{met:?}");
-    assert_eq!(one_above + above, counts.refused("issue", 15));
+    assert_eq!(one_above + above, counts.refused("issue", first_row(15)));
+}
+
+/// The lesser of two marks is the one or the other; and files of another length are met too.
+#[test]
+fn logs_are_exported_up_to_either_mark() {
+    let counts = replay::run().counts;
+    let met = ENDS.map(|name| counts.end(name));
+    assert!(met.iter().all(|&count| count > 10), "{met:?}");
+    assert_eq!(met.iter().sum::<u64>(), counts.ok("export"));
+    assert!(counts.refused("export", FILES_ROW) > 20);
 }
 
 #[test]
 fn lines_and_files_are_small() {
     let run = replay::run();
-    assert!(run.input.len() + run.output.len() < 600_000);
+    // 600,000 before exports came in, with states of their own and files of other lengths.
+    assert!(run.input.len() + run.output.len() < 700_000);
     assert!(run.input.lines().all(|line| line.len() <= 2_000));
     assert!(run.input.is_ascii() && run.input.ends_with('\n'));
     assert!((3_000..=6_000).contains(&run.counts.calls()));

@@ -2,6 +2,8 @@
 
 mod stored;
 
+use std::collections::BTreeMap;
+
 use twin::vectors;
 
 #[test]
@@ -20,7 +22,60 @@ fn stored_output_answers_the_stored_input() {
 #[test]
 fn lines_and_input_are_small() {
     let input = vectors::input();
-    assert!(input.len() < 400_000);
+    // Each byte and each length of a pair of segment files is a line that has the pair.
+    assert!(input.len() < 900_000);
     assert!(input.lines().all(|line| line.len() <= 2_000));
     assert!(input.is_ascii() && input.ends_with('\n'));
+}
+
+/// The answers to the lines of a command, without what stands behind the number or ok.
+fn answers(command: &str) -> BTreeMap<String, usize> {
+    let (input, output) = (vectors::input(), vectors::output(&vectors::input()));
+    let mut counts = BTreeMap::new();
+    for (line, answer) in input.lines().zip(output.lines()) {
+        if line.split('\t').next() == Some(command) {
+            let words = if answer.starts_with("no") { 2 } else { 1 };
+            let kind = answer.split('\t').take(words).collect::<Vec<_>>().join(" ");
+            *counts.entry(kind).or_default() += 1;
+        }
+    }
+    counts
+}
+
+/// Each reason to decline many times, since each byte and each length of a pair is tried.
+#[test]
+fn imports_meet_every_answer() {
+    let counts = answers("import");
+    println!("{counts:?}");
+    let kinds: Vec<&str> = counts.keys().map(String::as_str).collect();
+    assert_eq!(kinds, ["bad", "no 1", "no 24", "no 25", "no 26", "ok"]);
+    assert!(counts.values().all(|&count| count > 10));
+    // Of every byte of two headers, and of every length below theirs.
+    assert!(counts["no 24"] > 3 * 128 && counts["no 1"] > 128);
+}
+
+/// A field is missing or too much, or is not what it should be; or the line is too long.
+#[test]
+fn lines_that_fit_no_form_are_bad() {
+    let fits = |line: &str| vectors::output(line) != "bad\n";
+    let key = "00112233445566778899AABBCCDDEEFF";
+    let empty = format!("import\t1\t7\t{key}\t\t\t");
+    let log = format!("pair\t7\t{key}\t1\t{}", "00".repeat(128));
+    assert!(fits(&empty) && fits(&log) && fits("crc\t"));
+    let spoilt = [
+        format!("{empty}\t"),
+        format!("{empty}0"),
+        empty.replace("FF", "F"),
+        format!("{log}\t"),
+        format!("{log}0"),
+        log.replace("FF", "FFFF"),
+        log.replace("\t1\t", "\t2\t"),
+        log.replace("\t1\t", "\t\t"),
+        format!("crc\t{}", "0".repeat(1_998)),
+    ];
+    let short =
+        ["\n", "crc", "wait\t1", "crc\t0", "slotof\t1\t2", "slotof\t1\t+2\t3", "place\t1\t"];
+    for line in spoilt.iter().map(String::as_str).chain(short) {
+        assert!(!fits(line), "{line:?}");
+    }
 }

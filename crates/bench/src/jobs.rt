@@ -1,7 +1,9 @@
 // The jobs by their numbers: 0 the CRC of 64 KB, 1 the marks of seven full media, 2 one send of record 1,000 to a replica that holds
-// 999, 3 one prepare that cuts a full log of 1,000 to 500, 4 one open over seven replicas that all hold 1,000. Each sets a cluster
+// 999, 3 one prepare that cuts a full log of 1,000 to 500, 4 one open over seven replicas that all hold 1,000, 5 an export of 1,000
+// places, 6 an import of that pair into a wiped medium. Each sets a cluster
 // up, and then makes its turn as often as asked. A turn changes a byte that its result does not depend on, or undoes what the turn
 // before did, which counts, so that none can be saved.
+use crate::segments;
 use crate::stage;
 use crate::turns;
 use cluster::Call;
@@ -93,6 +95,9 @@ fn set_up(job: u64, m: &mut [u8], tables: &mut [u64]) {
 
 // What a job done so often comes to.
 pub fn total(job: u64, m: &mut [u8], tables: &mut [u64], count: u64) -> u64 {
+    if 4 < job {
+        return segments::total(job, m, tables, count);
+    }
     if 1 < job {
         return calls(job, m, tables, count);
     }

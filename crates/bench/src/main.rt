@@ -10,6 +10,7 @@ use text::number;
 use text::number::Number;
 
 mod jobs;
+mod segments;
 mod stage;
 mod turns;
 
@@ -18,7 +19,7 @@ fn say(text: &[u8]) {
 }
 
 // How many jobs there are.
-const JOBS: u64 = 5;
+const JOBS: u64 = 7;
 
 // The number of the job of this name, from 0; JOBS where there is none.
 fn job(names: &[u8], name: &[u8]) -> u64 {
@@ -39,7 +40,10 @@ fn answer(text: &[u8], m: &mut [u8], tables: &mut [u64]) -> bool {
     let Number::Is(count) = number::decimal(line::field(text, 1)) else {
         return false;
     };
-    let j = job(b"crc\tmarks\tsend\tprepare\topen", line::field(text, 0));
+    let j = job(
+        b"crc\tmarks\tsend\tprepare\topen\texport\timport",
+        line::field(text, 0),
+    );
     if j == JOBS {
         return false;
     }

@@ -1,4 +1,4 @@
-// The cluster that the jobs work on: seven replicas of 1,000 places, which one session may fill (K = N), driven by the eleven calls alone.
+// The cluster that the jobs work on: seven replicas of 1,000 places, which one session may fill (K = N), driven by the twelve calls alone.
 use cluster::Answer;
 use cluster::Call;
 use cluster::Outcome;
@@ -6,6 +6,7 @@ use cluster::Records;
 use cluster::Request;
 use cluster::Shape;
 use fate::Fate;
+use segment::header::Stamp;
 
 const REPLICAS: u64 = 7;
 
@@ -35,8 +36,16 @@ pub fn begun(m: &mut [u8], tables: &mut [u64]) -> Records {
     fresh::start(&t, shape, m, tables)
 }
 
-// One call; a request has 28 bytes of data and no lock.
-pub fn make(r: Records, m: &mut [u8], tables: &mut [u64], call: Call) -> Outcome {
+// One call; a request has 28 bytes of data and no lock. The key of an export's headers is all zeros.
+pub fn make_with(
+    r: Records,
+    m: &mut [u8],
+    tables: &mut [u64],
+    call: Call,
+    time: u64,
+    file: &mut [u8],
+    index: &mut [u8],
+) -> Outcome {
     let data = [0u8; 28];
     let none = [0u64; 1];
     let given = [0u8; 64];
@@ -45,7 +54,30 @@ pub fn make(r: Records, m: &mut [u8], tables: &mut [u64], call: Call) -> Outcome
         places: PLACES,
         interval: PLACES,
     };
-    journal::apply::apply(shape, r, m, tables, call, &data, &none[0..0], &given)
+    let stamp = Stamp {
+        time: time,
+        key: [0; 16],
+    };
+    journal::apply::apply(
+        shape,
+        r,
+        m,
+        tables,
+        call,
+        &data,
+        &none[0..0],
+        &given,
+        stamp,
+        file,
+        index,
+    )
+}
+
+// The same without files.
+pub fn make(r: Records, m: &mut [u8], tables: &mut [u64], call: Call) -> Outcome {
+    let mut file = [0u8; 1];
+    let mut index = [0u8; 1];
+    make_with(r, m, tables, call, 0, &mut file[0..0], &mut index[0..0])
 }
 
 // The records that a call leaves.

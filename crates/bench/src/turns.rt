@@ -8,6 +8,7 @@ use crate::stage::MEDIUM;
 use crc32::Tables;
 use std::num::wrapping_add_u64;
 use storage::medium;
+use storage::sizes::SLOTS;
 
 // The bytes whose CRC is taken.
 const CRC_BYTES: usize = 65536;
@@ -51,7 +52,7 @@ fn marks(t: &Tables, m: &[u8]) -> u64
 }
 
 // The byte that differs from turn to turn.
-fn mark_turn(m: &mut [u8], turn: u64) {
+pub fn mark_turn(m: &mut [u8], turn: u64) {
     if 0 < m.len() {
         m[0] = (turn % 256) as u8;
     }
@@ -74,6 +75,13 @@ fn wipe_last(m: &mut [u8]) {
     let e = MEDIUM;
     if e <= m.len() {
         octets::clear(&mut m[a..e]);
+    }
+}
+
+// Every place of a medium is wiped.
+pub fn wipe_places(m: &mut [u8]) {
+    if SLOTS <= m.len() {
+        octets::clear(&mut m[SLOTS..]);
     }
 }
 

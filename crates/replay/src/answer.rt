@@ -3,24 +3,43 @@ use crate::MEDIA;
 use crate::TABLES;
 use crate::calls;
 use crate::calls::Asked;
+use crate::export;
 use crate::forms;
 use crate::forms::CALLS;
+use crate::forms::EXPORT;
 use crate::lent;
 use crate::perform;
+use cluster::Call;
 use replay_state::cells::Cells;
 use run_lines::print;
+use segment::header::Stamp;
 
 // Makes the call that a line asks for, or takes what it hands in; false where it fits no form.
 pub fn fits(line: &[u8], m: &mut [u8; MEDIA], tables: &mut [u64; TABLES], w: &mut Cells) -> bool {
     let kind = forms::kind(line);
+    if kind == EXPORT {
+        return export::fits(line, m, tables, w);
+    }
     if CALLS <= kind {
         return lent::hand_in(line, kind, m, tables, w);
     }
     let Asked::Is(call) = calls::read(line, kind) else {
         return false;
     };
-    perform::perform(call, m, tables, w);
+    without_files(call, m, tables, w);
     true
+}
+
+// No other call than an export is lent files.
+fn without_files(call: Call, m: &mut [u8], tables: &mut [u64], w: &mut Cells) {
+    let mut file = [0u8; 1];
+    let mut index = [0u8; 1];
+    let none = Stamp {
+        time: 0,
+        key: [0; 16],
+    };
+    perform::perform(call, none, &mut file[0..0], &mut index[0..0], m, tables, w);
+    print::text(b"\n");
 }
 
 pub fn told(fits: bool) {

@@ -2,13 +2,16 @@
 //   0 take, 1 prepare, 2 copy, 3 trim, 4 open, 5 send, 6 note, 7 read: calls with a fate; 8 issue, 9 stop, 10 reassign
 //   11 shape, 12 register, 13 entry, 14 server, 15 handed, 16 replica: numbers that are held; 17 lend; 18 locks
 //   19 held, 20 given, 21 data, 22 media: their last field is BYTES; 23 table; 24 fresh
-//   25 for a line that fits no form
+//   25 export: its last field is BYTES, its key
+//   26 for a line that fits no form
 use replay_state::fields;
 use text::line;
 
 pub const CALLS: u64 = 11;
 
-const NONE: u64 = 25;
+pub const EXPORT: u64 = 25;
+
+const NONE: u64 = 26;
 
 // Which of the words this is, from 0; how many there are where it is none.
 fn find(words: &[u8], word: &[u8]) -> u64 {
@@ -35,6 +38,7 @@ fn count(kind: u64) -> usize {
         0 | 4 | 13 | 16 => 5,
         1 | 3 | 5 | 6 | 15 => 6,
         2 | 7 => 7,
+        25 => 10,
         _ => 8,
     }
 }
@@ -42,7 +46,7 @@ fn count(kind: u64) -> usize {
 // How many of them are no numbers: the word, and BYTES.
 fn others(kind: u64) -> usize {
     match kind {
-        19..=22 => 2,
+        19..=22 | 25 => 2,
         _ => 1,
     }
 }
@@ -50,7 +54,7 @@ fn others(kind: u64) -> usize {
 // The kind of a line.
 pub fn kind(line: &[u8]) -> u64 {
     let k = find(
-        b"take\tprepare\tcopy\ttrim\topen\tsend\tnote\tread\tissue\tstop\treassign\tshape\tregister\tentry\tserver\thanded\treplica\tlend\tlocks\theld\tgiven\tdata\tmedia\ttable\tfresh",
+        b"take\tprepare\tcopy\ttrim\topen\tsend\tnote\tread\tissue\tstop\treassign\tshape\tregister\tentry\tserver\thanded\treplica\tlend\tlocks\theld\tgiven\tdata\tmedia\ttable\tfresh\texport",
         line::first(line),
     );
     if k == 18 {

@@ -1,4 +1,4 @@
-// A call made on what is held, its reply and the check sums after it.
+// A call made on what is held, its reply and the check sums after it; the line is ended by whoever asks for it.
 ghost use Prim.Native.Nat.{_≤_};
 use cluster::Answer;
 use cluster::Call;
@@ -17,6 +17,7 @@ use replay_state::cells::SIZE;
 use replay_state::records;
 use replay_state::sums;
 use run_lines::print;
+use segment::header::Stamp;
 
 // The lock and its estimate stand behind number 15.
 fn print_refusal(why: Refusal) {
@@ -48,7 +49,7 @@ fn print_bytes(b: &[u8; 64]) {
     }
 }
 
-fn print_sum(sum: u32) {
+pub fn print_sum(sum: u32) {
     let mut out = [0u8; 4];
     octets::set_be(&mut out, sum as u64);
     print::text(b"\t");
@@ -83,7 +84,15 @@ fn some(b: &[u8], n: u64) -> &[u8] {
 }
 
 // The call with what lies beside it, as much of each as there is.
-fn apply(call: Call, m: &mut [u8], tables: &mut [u64], w: &Cells) -> Outcome {
+fn apply(
+    call: Call,
+    stamp: Stamp,
+    file: &mut [u8],
+    index: &mut [u8],
+    m: &mut [u8],
+    tables: &mut [u64],
+    w: &Cells,
+) -> Outcome {
     let data = cells::bytes(w, DATA);
     let given = cells::bytes(w, GIVEN);
     let n = cells::at(w, SIZE);
@@ -96,6 +105,9 @@ fn apply(call: Call, m: &mut [u8], tables: &mut [u64], w: &Cells) -> Outcome {
         some(&data, n),
         locks(w),
         &given,
+        stamp,
+        file,
+        index,
     )
 }
 
@@ -113,18 +125,33 @@ fn print_sums(m: &[u8], tables: &[u64], w: &Cells) {
     print_sum(sums::of_records(w));
     print_sum(sums::of_bytes(m));
     print_sum(sums::of(tables));
-    print::text(b"\n");
 }
 
-fn make(call: Call, m: &mut [u8], tables: &mut [u64], w: &mut Cells) {
-    let o = apply(call, m, tables, w);
+fn make(
+    call: Call,
+    stamp: Stamp,
+    file: &mut [u8],
+    index: &mut [u8],
+    m: &mut [u8],
+    tables: &mut [u64],
+    w: &mut Cells,
+) {
+    let o = apply(call, stamp, file, index, m, tables, w);
     keep(o, w);
     print_sums(m, tables, w);
 }
 
 // The slices are lent at the lengths that are held.
-pub fn perform(call: Call, m: &mut [u8], tables: &mut [u64], w: &mut Cells) {
+pub fn perform(
+    call: Call,
+    stamp: Stamp,
+    file: &mut [u8],
+    index: &mut [u8],
+    m: &mut [u8],
+    tables: &mut [u64],
+    w: &mut Cells,
+) {
     let a = least(cells::at(w, LENT), m.len());
     let b = least(cells::at(w, LENT + 1), tables.len());
-    make(call, &mut m[0..a], &mut tables[0..b], w);
+    make(call, stamp, file, index, &mut m[0..a], &mut tables[0..b], w);
 }

@@ -4,6 +4,7 @@ ghost use Rattle.crc32.specs.Tables.{tablesOf};
 use crate::media;
 use crate::operation;
 use crate::records;
+use crate::segments;
 use crc32::Tables;
 use text::line;
 
@@ -14,6 +15,8 @@ enum Command {
     Record,
     SlotOf,
     Media(operation::Command),
+    Pair,
+    Import,
     Unknown,
 }
 
@@ -56,6 +59,17 @@ fn medium_form_of(word: &[u8]) -> Form {
     if check::same(word, b"note") {
         return Form(Command::Media(operation::Command::Note), 9);
     }
+    segment_form_of(word)
+}
+
+// The same of the commands on segment files.
+fn segment_form_of(word: &[u8]) -> Form {
+    if check::same(word, b"pair") {
+        return Form(Command::Pair, 5);
+    }
+    if check::same(word, b"import") {
+        return Form(Command::Import, 7);
+    }
     Form(Command::Unknown, 0)
 }
 
@@ -75,6 +89,8 @@ pub fn answer(t: &Tables, line: &[u8]) -> bool
         Command::Record => records::record(t, line),
         Command::SlotOf => records::slot_of(t, line),
         Command::Media(x) => media::answer(t, line, x),
+        Command::Pair => segments::pair(t, line),
+        Command::Import => segments::import(t, line),
         Command::Unknown => false,
     }
 }

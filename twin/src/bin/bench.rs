@@ -16,13 +16,18 @@ use twin::script::LINE_LIMIT;
 const ROUNDS: usize = 5;
 
 /// A job, what it does, and how many turns take about a second, several times what its set-up takes.
-const JOBS: [(&str, &str, u64); 5] = [
+const JOBS: [(&str, &str, u64); 7] = [
     ("marks", "mark of seven full media of 1,000 places", 5_000),
     ("send", "one send to a replica that holds 999 of 1,000", 30_000),
     ("prepare", "one prepare that truncates 1,000 places to 500", 30_000),
     ("open", "one open of seven replicas at N = 1,000", 2_000_000),
-    ("crc", "CRC-32 of 64 KB", 30_000),
+    ("export", "export of 1,000 places", 10_000),
+    ("import", "import of 1,000 places", 10_000),
+    CRC,
 ];
+
+/// The job that zlib can do too.
+const CRC: (&str, &str, u64) = ("crc", "CRC-32 of 64 KB", 30_000);
 
 /// How often the script program's stored input is repeated.
 const SCRIPT_TIMES: usize = 200;
@@ -54,7 +59,7 @@ fn main() -> io::Result<ExitCode> {
     }
     print_script(&programs)?;
     if let Some(zlib) = &programs.zlib {
-        let (name, what, count) = JOBS[4];
+        let (name, what, count) = CRC;
         let [proved, zlib] = turn_times([&programs.jobs, zlib], name, count)?;
         println!(
             "| {what}, beside zlib | {} | {} | {:.2} |",

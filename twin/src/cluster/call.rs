@@ -1,8 +1,9 @@
-//! The eleven calls as values, and one function that makes any of them.
+//! The twelve calls as values, and one function that makes any of them.
 
 use super::{Cluster, Reply};
 use crate::fate::Fate;
 use crate::medium::{PlaceBytes, WIPED};
+use crate::segment::{Pair, Stamp};
 
 /// A message's fate and the bytes that a torn write leaves.
 #[derive(Clone, Copy, Debug, PartialEq, Eq)]
@@ -31,6 +32,7 @@ pub struct Request {
     pub locks: Vec<u64>,
 }
 
+/// A call, with the two files that it is lent if it is an export.
 #[derive(Clone, Debug, PartialEq, Eq)]
 pub enum Call {
     Take { server: u64, fate: Fate },
@@ -42,12 +44,14 @@ pub enum Call {
     Send { server: u64, replica: u64, message: Message },
     Note { server: u64, replica: u64, message: Message },
     Read { server: u64, replica: u64, id: u64, message: Message },
+    Export { server: u64, replica: u64, stamp: Stamp, files: Pair, message: Message },
     Stop { server: u64 },
     Reassign,
 }
 
 impl Cluster {
-    pub fn apply(&mut self, call: &Call) -> Reply {
+    /// Makes the call. Of the call itself only the lent files can change.
+    pub fn apply(&mut self, call: &mut Call) -> Reply {
         match call {
             Call::Take { server, fate } => self.take(*server, *fate),
             Call::Prepare { server, replica, message } => self.prepare(*server, *replica, message),
@@ -59,6 +63,9 @@ impl Cluster {
             Call::Note { server, replica, message } => self.note(*server, *replica, message),
             Call::Read { server, replica, id, message } => {
                 self.read(*server, *replica, *id, message)
+            }
+            Call::Export { server, replica, stamp, files, message } => {
+                self.export(*server, *replica, *stamp, files, message)
             }
             Call::Stop { server } => self.stop(*server),
             Call::Reassign => self.reassign(),

@@ -84,7 +84,7 @@ impl Cluster {
     }
 
     /// 1 to 5 for a call that names one replica; otherwise the indexes of server and replica.
-    fn check_addressed(
+    pub(super) fn check_addressed(
         &self,
         server: u64,
         replica: u64,
@@ -139,7 +139,7 @@ impl Cluster {
     }
 
     /// 18 to 20 for every call but prepare.
-    fn agreeing(&self, server: usize, replica: usize) -> Result<Found, Refusal> {
+    pub(super) fn agreeing(&self, server: usize, replica: usize) -> Result<Found, Refusal> {
         let record = &self.records.servers[server];
         let found = Found::on(self.medium(replica)).ok_or(Refusal::NoSlot)?;
         Refusal::OtherPromise.when(found.slot.promise != record.session)?;
@@ -148,7 +148,7 @@ impl Cluster {
     }
 
     /// What the replica does with a message that it judged so; its mark if it answers.
-    fn deliver(
+    pub(super) fn deliver(
         &mut self,
         replica: usize,
         judged: Result<Found, Refusal>,
@@ -166,7 +166,7 @@ impl Cluster {
 
     /// What the server makes of the replica's answer. An opening server forgets a silent replica,
     /// an open one drops it; one that answers is known or still a member.
-    fn hear(&mut self, server: usize, replica: usize, heard: Option<u64>) -> Answer {
+    pub(super) fn hear(&mut self, server: usize, replica: usize, heard: Option<u64>) -> Answer {
         let record = &mut self.records.servers[server];
         let Some(mark) = heard else {
             if record.phase == Phase::Open {

@@ -1,5 +1,7 @@
 //! Replies: an answer, silence, or the number of the first reason to decline.
 
+use std::ops::RangeFrom;
+
 use crate::medium::PlaceBytes;
 
 pub type Reply = Result<Answer, Refusal>;
@@ -7,7 +9,7 @@ pub type Reply = Result<Answer, Refusal>;
 /// The reply to a call that is not declined.
 #[derive(Clone, Copy, Debug, PartialEq, Eq)]
 pub enum Answer {
-    /// Done, with no value (stop).
+    /// Done, with no value (stop, export).
     Nothing,
     Number(u64),
     /// A place (read).
@@ -51,23 +53,29 @@ pub enum Refusal {
     NoSlot,
     OtherPromise,
     OtherMark,
+    /// The length of a file that export is lent.
+    OtherFiles,
     /// A number that cannot be raised.
     AtTop,
     OtherSession,
 }
 
-/// The numbers of the list, in the order in which they are checked.
-pub const ORDER: [u64; 23] =
-    [1, 2, 3, 4, 5, 6, 7, 8, 9, 10, 11, 12, 13, 14, 23, 15, 16, 17, 18, 19, 20, 21, 22];
+/// The rows of the list, by their numbers, in the order in which they are checked. 1 has a second row:
+/// "for an export's two files this is checked after 20".
+pub const ORDER: [u64; 24] =
+    [1, 2, 3, 4, 5, 6, 7, 8, 9, 10, 11, 12, 13, 14, 23, 15, 16, 17, 18, 19, 20, 1, 21, 22];
 
-/// Those that the receiver of a message gives: seen only if the message is answered.
-pub const BY_RECEIVER: [u64; 5] = [18, 19, 20, 21, 22];
+/// The row of the lengths of export's files.
+pub const FILES_ROW: usize = 21;
+
+/// The rows from that of 18 on: seen only if the message is answered.
+pub const BY_RECEIVER: RangeFrom<usize> = 18..;
 
 impl Refusal {
     /// Its number in document 01's list, which document 02 goes on with from 23.
     pub fn number(&self) -> u64 {
         match self {
-            Refusal::OutsideShape => 1,
+            Refusal::OutsideShape | Refusal::OtherFiles => 1,
             Refusal::MarkAbovePlaces => 2,
             Refusal::NoSuchServer => 3,
             Refusal::NoSuchReplica => 4,
@@ -93,6 +101,14 @@ impl Refusal {
         }
     }
 
+    /// Its row of the list.
+    pub fn row(&self) -> usize {
+        match self {
+            Refusal::OtherFiles => FILES_ROW,
+            _ => first_row(self.number()),
+        }
+    }
+
     /// Itself, if its condition holds.
     pub(super) fn when(self, condition: bool) -> Result<(), Refusal> {
         if condition {
@@ -101,4 +117,9 @@ impl Refusal {
             Ok(())
         }
     }
+}
+
+/// The first row with this number.
+pub fn first_row(number: u64) -> usize {
+    ORDER.iter().position(|&other| other == number).expect("a number of the list")
 }

@@ -1,11 +1,10 @@
 //! What the calls work on: register, server records, media and lock tables.
 
 use crate::locks::TABLE_MARKS;
-use crate::medium::{self, PlaceBytes, WIPED};
+use crate::medium::{self, PlaceBytes, MOST_PLACES, WIPED};
 use crate::votes::{quorum, MOST_REPLICAS};
 
 pub const SERVERS: usize = 4;
-pub const MOST_PLACES: u64 = 1000;
 
 /// R, N and K, which each call gets.
 #[derive(Clone, Copy, Debug, PartialEq, Eq)]

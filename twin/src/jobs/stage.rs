@@ -1,5 +1,5 @@
 //! The cluster that the jobs work on: seven replicas of 1,000 places, which one session may fill,
-//! driven by the eleven calls.
+//! driven by the calls.
 
 use crate::cluster::{Answer, Call, Cluster, Message, Request, Shape};
 use crate::fate::Fate;
@@ -16,8 +16,8 @@ pub fn message() -> Message {
 }
 
 /// Makes a call; its value, 0 where it has none.
-pub fn make(cluster: &mut Cluster, call: &Call) -> u64 {
-    match cluster.apply(call) {
+pub fn make(cluster: &mut Cluster, mut call: Call) -> u64 {
+    match cluster.apply(&mut call) {
         Ok(Answer::Number(value)) => value,
         _ => 0,
     }
@@ -25,9 +25,9 @@ pub fn make(cluster: &mut Cluster, call: &Call) -> u64 {
 
 /// A server takes the next session and prepares every replica.
 pub fn prepare_all(cluster: &mut Cluster, server: u64) {
-    make(cluster, &Call::Take { server, fate: Fate::Answered });
+    make(cluster, Call::Take { server, fate: Fate::Answered });
     for replica in 0..REPLICAS {
-        make(cluster, &Call::Prepare { server, replica, message: message() });
+        make(cluster, Call::Prepare { server, replica, message: message() });
     }
 }
 
@@ -41,18 +41,18 @@ pub fn issue(cluster: &mut Cluster) {
         data: vec![0; 28],
         ..Request::default()
     };
-    make(cluster, &Call::Issue { server: 0, request });
+    make(cluster, Call::Issue { server: 0, request });
 }
 
 /// Server 0 has opened the first session and stored so many records on every replica.
 pub fn filled(records: u64) -> Cluster {
     let mut cluster = fresh();
     prepare_all(&mut cluster, 0);
-    make(&mut cluster, &Call::Open { server: 0, fate: Fate::Answered });
+    make(&mut cluster, Call::Open { server: 0, fate: Fate::Answered });
     for _ in 0..records {
         issue(&mut cluster);
         for replica in 0..REPLICAS {
-            make(&mut cluster, &Call::Send { server: 0, replica, message: message() });
+            make(&mut cluster, Call::Send { server: 0, replica, message: message() });
         }
     }
     cluster

@@ -1,30 +1,25 @@
-//! What a run meets: replies of each call, fates, intervals, and locks around the client's mark.
+//! What a run meets: replies of each call, fates, intervals, locks around the client's mark, and ends of
+//! exported logs.
 
 use std::collections::BTreeMap;
 use std::fmt;
 
+use super::names::{end_name, estimate_name, fate_name, fate_of, interval_name};
+use super::names::{ENDS, ESTIMATES, FATES, INTERVALS};
 use super::texts::word;
-use crate::cluster::{Answer, Call, Cluster, Refusal, Reply, Shape, ORDER};
-use crate::fate::{Fate, Left};
-use crate::tries::clients::needed_mark;
+use crate::cluster::{Answer, Call, Cluster, Refusal, Reply, ORDER};
 
-pub const CALLS: [&str; 11] = [
-    "take", "prepare", "copy", "trim", "open", "issue", "send", "note", "read", "stop", "reassign",
+pub const CALLS: [&str; 12] = [
+    "take", "prepare", "copy", "trim", "open", "issue", "send", "note", "read", "export", "stop",
+    "reassign",
 ];
-
-pub const FATES: [&str; 6] = ["answered", "lost", "answer lost", "cut old", "cut new", "cut torn"];
-
-/// What K can be beside N; "1" and "between" are below N.
-pub const INTERVALS: [&str; 6] = ["0", "1", "between", "N", "N + 1", "above"];
-
-/// Where the greatest estimate of a request's locks lies beside the client's mark. Up to "at" the
-/// request is granted.
-pub const ESTIMATES: [&str; 5] = ["below", "1 below", "at", "1 above", "above"];
 
 #[derive(Default)]
 pub struct Counts {
-    /// By call and reply: 0 for ok, the number of a refusal.
-    replies: BTreeMap<(&'static str, u64), u64>,
+    /// By call.
+    ok: BTreeMap<&'static str, u64>,
+    /// By call and row of the list.
+    refused: BTreeMap<(&'static str, usize), u64>,
     silent: BTreeMap<&'static str, u64>,
     /// By call, fate and write (0 unless cut), of calls that are not declined.
     fates: BTreeMap<(&'static str, &'static str, u64), u64>,
@@ -32,6 +27,8 @@ pub struct Counts {
     intervals: BTreeMap<(&'static str, &'static str), u64>,
     /// Requests that locks alone decide about.
     estimates: BTreeMap<&'static str, u64>,
+    /// Segments that were written.
+    ends: BTreeMap<&'static str, u64>,
     /// Whether issue was declined with 23 since the last state was handed in or session opened.
     due: bool,
     /// Sessions opened after that.
@@ -44,8 +41,8 @@ impl Counts {
         let word = word(call);
         match reply {
             Ok(Answer::Silent) => *self.silent.entry(word).or_default() += 1,
-            Ok(_) => *self.replies.entry((word, 0)).or_default() += 1,
-            Err(refusal) => *self.replies.entry((word, refusal.number())).or_default() += 1,
+            Ok(_) => *self.ok.entry(word).or_default() += 1,
+            Err(refusal) => *self.refused.entry((word, refusal.row())).or_default() += 1,
         }
         if let (Some(fate), Ok(_)) = (fate_of(call), reply) {
             let (name, write) = fate_name(fate);
@@ -56,6 +53,9 @@ impl Counts {
         }
         if let Some(name) = estimate_name(cluster, call, reply) {
             *self.estimates.entry(name).or_default() += 1;
+        }
+        if let Some(name) = end_name(cluster, call, reply) {
+            *self.ends.entry(name).or_default() += 1;
         }
         self.add_change(call, reply);
     }
@@ -77,17 +77,16 @@ impl Counts {
     }
 
     pub fn ok(&self, call: &str) -> u64 {
-        self.refused(call, 0)
+        self.ok.get(call).copied().unwrap_or(0)
     }
 
     pub fn silent(&self, call: &str) -> u64 {
         self.silent.get(call).copied().unwrap_or(0)
     }
 
-    /// How often the call was declined with this number.
-    pub fn refused(&self, call: &str, number: u64) -> u64 {
-        let counted =
-            self.replies.iter().filter(|((word, met), _)| (*word, *met) == (call, number));
+    /// How often the call was declined by this row of the list.
+    pub fn refused(&self, call: &str, row: usize) -> u64 {
+        let counted = self.refused.iter().filter(|((word, met), _)| (*word, *met) == (call, row));
         counted.map(|(_, count)| count).sum()
     }
 
@@ -118,6 +117,11 @@ impl Counts {
         self.estimates.get(name).copied().unwrap_or(0)
     }
 
+    /// How many logs were exported that ended so.
+    pub fn end(&self, name: &str) -> u64 {
+        self.ends.get(name).copied().unwrap_or(0)
+    }
+
     /// How many sessions were opened on a cluster where issue had been declined with 23 since the
     /// one before.
     pub fn forced(&self) -> u64 {
@@ -125,68 +129,12 @@ impl Counts {
     }
 
     pub fn calls(&self) -> u64 {
-        self.replies.values().chain(self.silent.values()).sum()
+        self.ok.values().chain(self.silent.values()).chain(self.refused.values()).sum()
     }
 }
 
-fn fate_of(call: &Call) -> Option<Fate> {
-    match call {
-        Call::Take { fate, .. } | Call::Open { fate, .. } => Some(*fate),
-        Call::Prepare { message, .. }
-        | Call::Copy { message, .. }
-        | Call::Trim { message, .. }
-        | Call::Send { message, .. }
-        | Call::Note { message, .. }
-        | Call::Read { message, .. } => Some(message.fate),
-        Call::Issue { .. } | Call::Stop { .. } | Call::Reassign => None,
-    }
-}
-
-fn fate_name(fate: Fate) -> (&'static str, u64) {
-    match fate {
-        Fate::Answered => ("answered", 0),
-        Fate::Lost => ("lost", 0),
-        Fate::AnswerLost => ("answer lost", 0),
-        Fate::Cut(write, Left::Old) => ("cut old", write),
-        Fate::Cut(write, Left::New) => ("cut new", write),
-        Fate::Cut(write, Left::Torn) => ("cut torn", write),
-    }
-}
-
-/// `None` if R, N or a lent length is outside its values, whatever K is.
-fn interval_name(cluster: &Cluster) -> Option<&'static str> {
-    let Shape { replicas, places, interval } = cluster.shape;
-    if !Shape::whole(replicas, places).is_allowed() || !cluster.has_exact_lengths() {
-        return None;
-    }
-    Some(match interval {
-        0 => "0",
-        _ if interval == places => "N",
-        _ if interval == places + 1 => "N + 1",
-        _ if interval > places => "above",
-        1 => "1",
-        _ => "between",
-    })
-}
-
-/// `None` unless the request names a lock and nothing else stands in its way.
-fn estimate_name(cluster: &Cluster, call: &Call, reply: &Reply) -> Option<&'static str> {
-    let (Call::Issue { server, request }, Ok(_) | Err(Refusal::Locked { .. })) = (call, reply)
-    else {
-        return None;
-    };
-    let needed = needed_mark(cluster.table(*server as usize), &request.locks)?;
-    Some(match i128::from(needed) - i128::from(request.client_mark) {
-        ..-1 => "below",
-        -1 => "1 below",
-        0 => "at",
-        1 => "1 above",
-        2.. => "above",
-    })
-}
-
-/// A table of replies by call, one of fates and one of K by call, one of estimates, and the writes that
-/// were cut.
+/// A table of replies by call, in which 1 stands once more behind 20 (the lengths of export's files); one
+/// of fates and one of K by call, one of estimates, one of ends, and the writes that were cut.
 impl fmt::Display for Counts {
     fn fmt(&self, f: &mut fmt::Formatter<'_>) -> fmt::Result {
         write!(f, "{:9}{:>6}{:>7}", "call", "ok", "silent")?;
@@ -202,6 +150,10 @@ impl fmt::Display for Counts {
         ESTIMATES.iter().try_for_each(|name| write!(f, "{name:>12}"))?;
         write!(f, "\n{:9}", "issue")?;
         ESTIMATES.iter().try_for_each(|name| write!(f, "{:>12}", self.estimate(name)))?;
+        write!(f, "\n\n{:9}", "end")?;
+        ENDS.iter().try_for_each(|name| write!(f, "{name:>13}"))?;
+        write!(f, "\n{:9}", "export")?;
+        ENDS.iter().try_for_each(|name| write!(f, "{:>13}", self.end(name)))?;
         writeln!(f)?;
         let cuts = &mut FATES[3..].iter();
         cuts.try_for_each(|fate| write!(f, "\n{fate} at writes {:?}", self.writes(fate)))?;
@@ -213,7 +165,7 @@ impl fmt::Display for Counts {
 impl Counts {
     fn write_replies(&self, f: &mut fmt::Formatter<'_>, call: &str) -> fmt::Result {
         write!(f, "\n{call:9}{:>6}{:>7}", self.ok(call), self.silent(call))?;
-        ORDER.iter().try_for_each(|&number| write!(f, "{:>5}", self.refused(call, number)))
+        (0..ORDER.len()).try_for_each(|row| write!(f, "{:>5}", self.refused(call, row)))
     }
 
     fn write_fates(&self, f: &mut fmt::Formatter<'_>, call: &str) -> fmt::Result {

@@ -1,7 +1,7 @@
 //! The list of states and calls of a run.
 
 use super::recorder::Recorder;
-use super::{locks, random_states, scenes, Run};
+use super::{exports, locks, random_states, scenes, Run};
 use crate::cluster::{Call, Cluster, Shape};
 use crate::fate::Fate;
 use crate::random::Random;
@@ -33,6 +33,7 @@ pub fn replay(random: &mut Random) -> Run {
     bad_lines(&mut recorder);
     any_interval(&mut recorder);
     locks::list(&mut recorder);
+    exports::list(&mut recorder);
     scenes::replay(&mut recorder, random);
     for (replicas, places, interval) in (0..LISTS).flat_map(|_| SHAPES) {
         list(&mut recorder, random, Shape { replicas, places, interval });
@@ -63,6 +64,18 @@ fn bad_lines(recorder: &mut Recorder) {
         "shape\t3\t4\t4\t4",
         "shape\t3\t4\t18446744073709551616",
         "Stop\t0",
+        "export\t0\t0\t0\t0\t0\t7\t128\t128",
+        "export\t0\t0\t0\t0\t0\t7\t128\t00112233445566778899AABBCCDDEEFF",
+        "export\t0\t0\t0\t0\t0\t7\t128\t128\t00112233445566778899AABBCCDDEE",
+        "export\t0\t0\t0\t0\t0\t7\t128\t128\t00112233445566778899AABBCCDDEEF",
+        "export\t0\t0\t0\t0\t0\t7\t128\t128\t00112233445566778899AABBCCDDEEFF00",
+        "export\t0\t0\t0\t0\t0\t7\t128\t128\t00112233445566778899AABBCCDDEEFG",
+        "export\t0\t0\t0\t0\t0\t7\t128\t128\t00112233445566778899AABBCCDDEEFF\t0",
+        "export\t0\t0\t0\t0\t0\t7\t1201\t128\t00112233445566778899AABBCCDDEEFF",
+        "export\t0\t0\t0\t0\t0\t7\t128\t301\t00112233445566778899AABBCCDDEEFF",
+        "export\t0\t0\t0\t0\t0\t18446744073709551616\t128\t128\t00112233445566778899AABBCCDDEEFF",
+        "export\t0\t0\t4\t0\t0\t7\t128\t128\t00112233445566778899AABBCCDDEEFF",
+        "export\t0\t0\t3\t1\t3\t7\t128\t128\t00112233445566778899AABBCCDDEEFF",
     ];
     lines.iter().for_each(|line| recorder.bad(line));
 }

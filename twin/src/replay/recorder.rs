@@ -1,17 +1,22 @@
 //! Writes the lines of a run and what they print, and makes its calls.
 
 use super::state_lines::{media_lines, record_lines, shape_line, table_lines};
-use super::sums::sums;
+use super::sums::{file_sums, sums};
 use super::texts::{call_line, line, reply_text};
 use super::{Counts, Run};
 use crate::cluster::{Call, Cluster, Message, Records, Reply, Shape};
 use crate::fate::{Fate, Left};
 use crate::hex;
 use crate::medium::{PlaceBytes, WIPED};
+use crate::segment::Pair;
+use crate::tries::scene::UNWRITTEN;
 
 /// What the program holds of media and lock tables, which is more than it lends.
 const MEDIA: usize = 7168;
 const TABLES: usize = 4100;
+
+/// What it holds for each file of an export.
+const FILES: [usize; 2] = [1200, 300];
 
 pub struct Recorder {
     /// What the next call gets.
@@ -92,14 +97,14 @@ impl Recorder {
 
     /// Makes a call.
     pub fn call(&mut self, call: &Call) -> Reply {
-        let call = self.with_beside(call.clone());
+        let mut call = self.with_beside(call.clone());
         self.line(&call_line(&call));
         let before = self.cluster.clone();
-        let reply = self.cluster.apply(&call);
+        let reply = self.cluster.apply(&mut call);
         self.keep_slices();
         let [records, media, tables] = sums(&self.cluster);
-        let text = reply_text(&reply);
-        self.run.output += &format!("{text}\t{records:08X}\t{media:08X}\t{tables:08X}\n");
+        let (text, files) = (reply_text(&reply), file_sums(&call));
+        self.run.output += &format!("{text}\t{records:08X}\t{media:08X}\t{tables:08X}{files}\n");
         self.run.counts.add(&before, &call, &reply);
         reply
     }
@@ -119,6 +124,10 @@ impl Recorder {
             | Call::Send { message, .. }
             | Call::Note { message, .. }
             | Call::Read { message, .. } => message.given = self.hand_in_given(message),
+            Call::Export { files, message, .. } => {
+                message.given = self.hand_in_given(message);
+                *files = lent(files.lengths());
+            }
             Call::Issue { request, .. } => self.hand_in_request(&request.data, &request.locks),
             _ => {}
         }
@@ -143,4 +152,10 @@ impl Recorder {
             self.line(&line("locks", locks));
         }
     }
+}
+
+/// The files that an export line lends.
+fn lent(lengths: [usize; 2]) -> Pair {
+    assert!(lengths[0] <= FILES[0] && lengths[1] <= FILES[1], "{lengths:?}");
+    Pair::filled(lengths, UNWRITTEN)
 }

@@ -3,8 +3,8 @@
 
 use std::ops::RangeInclusive;
 
-use super::locks;
 use super::recorder::Recorder;
+use super::{export_scenes, locks};
 use crate::cluster::{Call, Entry, Message, Standing};
 use crate::fate::{Fate, Left};
 use crate::medium::{
@@ -46,6 +46,7 @@ fn particular(recorder: &mut Recorder, random: &mut Random, scene: &Scene) {
             joined(recorder, scene);
         }
         Kind::Note => place_beyond(recorder, scene),
+        Kind::Export => export_scenes::replay(recorder, random, scene),
         _ => {}
     }
 }
@@ -99,18 +100,19 @@ fn with_each_fault(recorder: &mut Recorder, scene: &Scene) {
     for fault in faults_of(scene) {
         let mut scene = with_faults(scene, &[&fault]);
         try_scene(recorder, scene.clone());
-        if (fault.by_receiver() || fault.number == 17) && scene.kind != Kind::Reassign {
+        if (fault.by_receiver() || fault.number() == 17) && scene.kind != Kind::Reassign {
             scene.set_message(Message::new(Fate::AnswerLost));
             try_scene(recorder, scene);
         }
     }
 }
 
-/// Two faults at once, of a number and of the next one in the list that the call can meet: the first is given.
+/// Two faults at once, of a row and of the next one of the list that the call can meet: the first is
+/// given.
 fn with_two_faults(recorder: &mut Recorder, random: &mut Random, scene: &Scene) {
     let mut faults = faults_of(scene);
-    faults.sort_by_key(Fault::rank);
-    let groups: Vec<&[Fault]> = faults.chunk_by(|a, b| a.number == b.number).collect();
+    faults.sort_by_key(|fault| fault.row);
+    let groups: Vec<&[Fault]> = faults.chunk_by(|a, b| a.row == b.row).collect();
     for pair in groups.windows(2) {
         let pair = [random.pick(pair[0]), random.pick(pair[1])];
         try_scene(recorder, with_faults(scene, &pair));

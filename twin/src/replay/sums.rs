@@ -1,12 +1,22 @@
-//! Check sums of all state.
+//! Check sums of all state, and of an export's files.
 
-use crate::cluster::{Cluster, Entry, Phase, Records, Server, Standing};
+use crate::cluster::{Call, Cluster, Entry, Phase, Records, Server, Standing};
 use crate::crc::crc32;
 
 /// Of the records, the media and the lock tables.
 pub fn sums(cluster: &Cluster) -> [u32; 3] {
     let tables: Vec<u8> = cluster.locks.iter().flat_map(|mark| mark.to_be_bytes()).collect();
     [crc32(&record_bytes(&cluster.records)), crc32(&cluster.media), crc32(&tables)]
+}
+
+/// Of the two files of an export, behind a tab each.
+pub fn file_sums(call: &Call) -> String {
+    match call {
+        Call::Export { files, .. } => {
+            format!("\t{:08X}\t{:08X}", crc32(&files.data), crc32(&files.index))
+        }
+        _ => String::new(),
+    }
 }
 
 /// Register, then servers, as big-endian numbers of eight bytes.

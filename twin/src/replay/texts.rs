@@ -21,11 +21,20 @@ pub fn call_line(call: &Call) -> String {
         Call::Read { server, replica, id, message } => {
             with_fate(&[*server, *replica, *id], message.fate)
         }
+        Call::Export { server, replica, stamp, files, message } => {
+            let [data, index] = files.lengths().map(|length| length as u64);
+            let fate = with_fate(&[*server, *replica], message.fate);
+            [fate.as_slice(), &[stamp.time, data, index]].concat()
+        }
         Call::Issue { server, request } => request_numbers(*server, request),
         Call::Stop { server } => vec![*server],
         Call::Reassign => Vec::new(),
     };
-    line(word(call), &numbers)
+    let line = line(word(call), &numbers);
+    match call {
+        Call::Export { stamp, .. } => format!("{line}\t{}", hex::encode(&stamp.key)),
+        _ => line,
+    }
 }
 
 pub fn word(call: &Call) -> &'static str {
@@ -39,6 +48,7 @@ pub fn word(call: &Call) -> &'static str {
         Call::Send { .. } => "send",
         Call::Note { .. } => "note",
         Call::Read { .. } => "read",
+        Call::Export { .. } => "export",
         Call::Stop { .. } => "stop",
         Call::Reassign => "reassign",
     }

@@ -2,6 +2,7 @@
 
 use super::LINE_LIMIT;
 use crate::cluster::{Call, Message, Request, Shape};
+use crate::decimal::number;
 use crate::fate::Fate;
 use crate::hex;
 
@@ -96,15 +97,4 @@ impl<'a, I: Iterator<Item = &'a [u8]>> Fields<I> {
     fn message(&mut self) -> Option<Message> {
         self.fate().map(Message::new)
     }
-}
-
-/// A number of 64 bits in base ten: digits only, at least one, leading zeros allowed.
-fn number(field: &[u8]) -> Option<u64> {
-    if field.is_empty() {
-        return None;
-    }
-    field.iter().try_fold(0u64, |value, &byte| {
-        let digit = byte.is_ascii_digit().then(|| u64::from(byte - b'0'))?;
-        value.checked_mul(10)?.checked_add(digit)
-    })
 }

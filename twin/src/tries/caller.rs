@@ -1,6 +1,7 @@
 //! Draws calls that get somewhere: mostly what the server's phase allows, with fates of every kind.
 
 use super::clients::draw_mark;
+use super::exports::draw_export;
 use crate::cluster::{Call, Cluster, Message, Phase, Request, Server, Standing};
 use crate::fate::{Fate, Left};
 use crate::medium::{Slot, PLACE_BYTES};
@@ -62,7 +63,7 @@ impl Caller {
     fn open_call(&self, random: &mut Random, cluster: &Cluster, server: u64) -> Call {
         let replica = draw_usable(random, cluster, server);
         let message = self.message(random);
-        match random.below(20) {
+        match random.below(21) {
             0..=5 => Call::Issue { server, request: draw_request(random, cluster, server) },
             6..=14 => Call::Send { server, replica, message },
             15 | 16 => self.copy(random, cluster, server),
@@ -71,6 +72,7 @@ impl Caller {
                 let id = random.below(cluster.shape.places + 2);
                 Call::Read { server, replica, id, message }
             }
+            19 => draw_export(random, cluster, server, replica, message),
             _ => self.rare_call(random, server),
         }
     }
@@ -135,7 +137,8 @@ pub fn is_cut(call: &Call) -> bool {
         | Call::Trim { message, .. }
         | Call::Send { message, .. }
         | Call::Note { message, .. }
-        | Call::Read { message, .. } => matches!(message.fate, Fate::Cut(..)),
+        | Call::Read { message, .. }
+        | Call::Export { message, .. } => matches!(message.fate, Fate::Cut(..)),
         _ => false,
     }
 }

@@ -1,18 +1,19 @@
 //! Faults, each with the number that it makes a call decline with.
 
-use crate::cluster::{Message, Phase, Standing, BY_RECEIVER, ORDER};
+use crate::cluster::{first_row, Message, Phase, Standing, BY_RECEIVER, FILES_ROW, ORDER};
 use crate::fate::{Fate, Left};
 use crate::locks::lock_places;
 use crate::medium::{mark, place_at, put, PLACE_BYTES, SLOTS_BYTES, WIPED};
 
 use super::scene::Kind::{self, *};
 use super::scene::{
-    record_bytes, set_place, set_promise, set_tables, Scene, CLIENT_MARK, PLACES, REPLICA, SERVER,
-    SESSION, SOURCE,
+    record_bytes, set_place, set_promise, set_tables, Scene, CLIENT_MARK, EXACT, PLACES, REPLICA,
+    SERVER, SESSION, SOURCE,
 };
 
 pub struct Fault {
-    pub number: u64,
+    /// The row of the list.
+    pub row: usize,
     pub name: &'static str,
     /// The calls that meet it.
     pub calls: &'static [Kind],
@@ -20,30 +21,42 @@ pub struct Fault {
 }
 
 impl Fault {
-    /// Where its number stands in the list.
-    pub fn rank(&self) -> usize {
-        ORDER.iter().position(|&number| number == self.number).expect("a number of the list")
+    pub fn number(&self) -> u64 {
+        ORDER[self.row]
     }
 
     /// The receiver of the message gives its number.
     pub fn by_receiver(&self) -> bool {
-        BY_RECEIVER.contains(&self.number)
+        BY_RECEIVER.contains(&self.row)
     }
 }
 
-const EVERY: &[Kind] =
-    &[Take, Prepare, OpeningCopy, OpenCopy, Trim, Open, Issue, Send, Note, Read, Stop, Reassign];
+const EVERY: &[Kind] = &[
+    Take,
+    Prepare,
+    OpeningCopy,
+    OpenCopy,
+    Trim,
+    Open,
+    Issue,
+    Send,
+    Note,
+    Read,
+    Export,
+    Stop,
+    Reassign,
+];
 const BY_SERVER: &[Kind] =
-    &[Take, Prepare, OpeningCopy, OpenCopy, Trim, Open, Issue, Send, Note, Read, Stop];
-const BUSY: &[Kind] = &[Prepare, OpeningCopy, OpenCopy, Trim, Open, Issue, Send, Note, Read];
-const TO_REPLICA: &[Kind] = &[Prepare, OpeningCopy, OpenCopy, Trim, Send, Note, Read];
-const AGREEING: &[Kind] = &[OpeningCopy, OpenCopy, Trim, Send, Note, Read];
+    &[Take, Prepare, OpeningCopy, OpenCopy, Trim, Open, Issue, Send, Note, Read, Export, Stop];
+const BUSY: &[Kind] =
+    &[Prepare, OpeningCopy, OpenCopy, Trim, Open, Issue, Send, Note, Read, Export];
+const TO_REPLICA: &[Kind] = &[Prepare, OpeningCopy, OpenCopy, Trim, Send, Note, Read, Export];
+const AGREEING: &[Kind] = &[OpeningCopy, OpenCopy, Trim, Send, Note, Read, Export];
 const COPIES: &[Kind] = &[OpeningCopy, OpenCopy];
 
 fn all_faults() -> Vec<Fault> {
-    let groups =
-        [shape(), marks(), names(), phases(), fates(), votes(), requests(), work(), receivers()];
-    groups.into_iter().flatten().collect()
+    let before = [shape(), marks(), names(), phases(), fates(), votes(), requests(), work()];
+    before.into_iter().chain([receivers(), files()]).flatten().collect()
 }
 
 /// The faults that a scene can meet.
@@ -54,7 +67,7 @@ pub fn faults_of(scene: &Scene) -> Vec<Fault> {
 /// Faults that are checked later come first, so that those checked earlier have the last word.
 pub fn with_faults(scene: &Scene, faults: &[&Fault]) -> Scene {
     let mut faults = faults.to_vec();
-    faults.sort_by_key(|fault| std::cmp::Reverse(fault.rank()));
+    faults.sort_by_key(|fault| std::cmp::Reverse(fault.row));
     let mut scene = scene.clone();
     for fault in faults {
         (fault.make)(&mut scene);
@@ -63,7 +76,7 @@ pub fn with_faults(scene: &Scene, faults: &[&Fault]) -> Scene {
 }
 
 fn fault(number: u64, name: &'static str, calls: &'static [Kind], make: fn(&mut Scene)) -> Fault {
-    Fault { number, name, calls, make }
+    Fault { row: first_row(number), name, calls, make }
 }
 
 fn shape() -> Vec<Fault> {
@@ -120,7 +133,7 @@ fn names() -> Vec<Fault> {
 fn phases() -> Vec<Fault> {
     vec![
         fault(5, "idle", BUSY, |scene| set_phase(scene, Phase::Idle)),
-        fault(5, "opening", &[Take, Issue, Send, Note, Read], |scene| {
+        fault(5, "opening", &[Take, Issue, Send, Note, Read, Export], |scene| {
             set_phase(scene, Phase::Opening)
         }),
         fault(5, "open", &[Take, Prepare, Trim, Open], |scene| set_phase(scene, Phase::Open)),
@@ -269,6 +282,25 @@ fn receivers() -> Vec<Fault> {
             scene.cluster.records.register.session = SESSION - 1
         }),
     ]
+}
+
+/// Files of other lengths: 1 once more.
+fn files() -> Vec<Fault> {
+    const DATA: usize = EXACT[0];
+    const INDEX: usize = EXACT[1];
+    vec![
+        other_files("data one byte short", |scene| scene.lend([DATA - 1, INDEX])),
+        other_files("data one byte long", |scene| scene.lend([DATA + 1, INDEX])),
+        other_files("no data", |scene| scene.lend([0, INDEX])),
+        other_files("index one byte short", |scene| scene.lend([DATA, INDEX - 1])),
+        other_files("index one byte long", |scene| scene.lend([DATA, INDEX + 1])),
+        other_files("no index", |scene| scene.lend([DATA, 0])),
+        other_files("files swapped", |scene| scene.lend([INDEX, DATA])),
+    ]
+}
+
+fn other_files(name: &'static str, make: fn(&mut Scene)) -> Fault {
+    Fault { row: FILES_ROW, name, calls: &[Export], make }
 }
 
 fn damage_slots(medium: &mut [u8]) {

@@ -1,8 +1,9 @@
 //! For each call a state in which it is not declined.
 
-use crate::cluster::{Call, Cluster, Message, Phase, Request, Shape, Standing};
+use crate::cluster::{Call, Cluster, Message, Phase, Reply, Request, Shape, Standing};
 use crate::fate::Fate;
 use crate::medium::{place_at, put, PlaceBytes, Record, Slot, SLOT_BYTES};
+use crate::segment::{Pair, Stamp, FRAME_BYTES, HEADER_BYTES, OFFSET_BYTES};
 
 pub const PLACES: u64 = 10;
 pub const SESSION: u64 = 5;
@@ -17,6 +18,17 @@ pub const SERVER: usize = 1;
 pub const REPLICA: usize = 0;
 pub const SOURCE: usize = 2;
 
+/// The records that export's scene has to write, and the exact lengths of its files.
+pub const EXPORTED: usize = 4;
+pub const EXACT: [usize; 2] =
+    [HEADER_BYTES + EXPORTED * (FRAME_BYTES + DATA.len()), HEADER_BYTES + EXPORTED * OFFSET_BYTES];
+
+/// What the files hold before they are written.
+pub const UNWRITTEN: u8 = 0xAA;
+
+/// The data of every record.
+const DATA: &[u8] = b"six";
+
 /// The calls, copy once for each phase.
 #[derive(Clone, Copy, Debug, PartialEq, Eq)]
 pub enum Kind {
@@ -30,12 +42,13 @@ pub enum Kind {
     Send,
     Note,
     Read,
+    Export,
     Stop,
     Reassign,
 }
 
 /// A state and a call on it.
-#[derive(Clone)]
+#[derive(Clone, Debug, PartialEq, Eq)]
 pub struct Scene {
     pub kind: Kind,
     pub cluster: Cluster,
@@ -43,6 +56,10 @@ pub struct Scene {
 }
 
 impl Scene {
+    pub fn apply(&mut self) -> Reply {
+        self.cluster.apply(&mut self.call)
+    }
+
     pub fn medium(&mut self) -> &mut [u8] {
         self.cluster.medium_mut(REPLICA)
     }
@@ -63,6 +80,7 @@ impl Scene {
             | Call::Send { server, .. }
             | Call::Note { server, .. }
             | Call::Read { server, .. }
+            | Call::Export { server, .. }
             | Call::Stop { server } => *server = number,
         }
     }
@@ -74,7 +92,8 @@ impl Scene {
             | Call::Trim { replica, .. }
             | Call::Send { replica, .. }
             | Call::Note { replica, .. }
-            | Call::Read { replica, .. } => *replica = number,
+            | Call::Read { replica, .. }
+            | Call::Export { replica, .. } => *replica = number,
             _ => {}
         }
     }
@@ -99,8 +118,16 @@ impl Scene {
             | Call::Trim { message, .. }
             | Call::Send { message, .. }
             | Call::Note { message, .. }
-            | Call::Read { message, .. } => *message = new,
+            | Call::Read { message, .. }
+            | Call::Export { message, .. } => *message = new,
             _ => {}
+        }
+    }
+
+    /// Lends export's files at these lengths.
+    pub fn lend(&mut self, lengths: [usize; 2]) {
+        if let Call::Export { files, .. } = &mut self.call {
+            *files = Pair::filled(lengths, UNWRITTEN);
         }
     }
 
@@ -132,7 +159,7 @@ pub fn set_tables(cluster: &mut Cluster, own: u64, others: u64) {
 
 pub fn record_bytes(id: u64) -> PlaceBytes {
     let (client, generation, partition, sequence, header) = (1, 2, 3, 4, 5);
-    Record { id, client, generation, partition, sequence, header, data: b"six" }.encode()
+    Record { id, client, generation, partition, sequence, header, data: DATA }.encode()
 }
 
 /// Replicas with these marks and the promise `SESSION`, all known to the server or its members.
@@ -169,7 +196,7 @@ fn issuing_cluster() -> Cluster {
     cluster
 }
 
-pub fn all_scenes() -> [Scene; 12] {
+pub fn all_scenes() -> [Scene; 13] {
     let (server, replica, from) = (SERVER as u64, REPLICA as u64, SOURCE as u64);
     let fate = Fate::Answered;
     let message = Message::new(fate);
@@ -184,6 +211,8 @@ pub fn all_scenes() -> [Scene; 12] {
     let opening = |marks| cluster(Phase::Opening, marks);
     let calm = || open_cluster([4, 4, 4], 4, 4);
     let idle = || cluster(Phase::Idle, [4, 4, 4]);
+    let stamp = Stamp { time: 1_700_000_000_000, key: *b"the cluster key." };
+    let files = Pair::filled(EXACT, UNWRITTEN);
     [
         (Kind::Take, idle(), Call::Take { server, fate }),
         (Kind::Prepare, opening([4, 4, 4]), Call::Prepare { server, replica, message }),
@@ -195,6 +224,7 @@ pub fn all_scenes() -> [Scene; 12] {
         (Kind::Send, open_cluster([3, 4, 3], 4, 3), Call::Send { server, replica, message }),
         (Kind::Note, calm(), Call::Note { server, replica, message }),
         (Kind::Read, calm(), Call::Read { server, replica, id: 4, message }),
+        (Kind::Export, calm(), Call::Export { server, replica, stamp, files, message }),
         (Kind::Stop, calm(), Call::Stop { server }),
         (Kind::Reassign, idle(), Call::Reassign),
     ]

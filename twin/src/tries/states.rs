@@ -1,6 +1,7 @@
 //! Random states, handed in whole, and calls on them.
 
 use super::clients::draw_mark;
+use super::exports::draw_export;
 use super::scene::record_bytes;
 use crate::cluster::{
     Call, Cluster, Entry, Message, Phase, Request, Server, Shape, Standing, SERVERS,
@@ -122,7 +123,7 @@ impl Draw<'_> {
         let from = self.random.below(cluster.shape.replicas + 1);
         let message = self.message();
         let fate = message.fate;
-        match self.random.below(11) {
+        match self.random.below(12) {
             0 => Call::Take { server, fate },
             1 => Call::Prepare { server, replica, message },
             2 => Call::Copy { server, from, to: replica, message },
@@ -132,7 +133,8 @@ impl Draw<'_> {
             6 => Call::Send { server, replica, message },
             7 => Call::Note { server, replica, message },
             8 => Call::Read { server, replica, id: self.mark(), message },
-            9 => Call::Stop { server },
+            9 => draw_export(self.random, cluster, server, replica, message),
+            10 => Call::Stop { server },
             _ => Call::Reassign,
         }
     }

@@ -3,6 +3,7 @@
 
 use super::caller::{is_spent, Caller};
 use super::clients::draw_mark;
+use super::exports::draw_export;
 use crate::cluster::{Call, Cluster, Phase, Request, Server, Standing};
 use crate::random::Random;
 use crate::votes;
@@ -106,7 +107,7 @@ impl Useful<'_> {
     }
 
     /// A member that lacks just the issued record gets it; one further behind is copied to. What
-    /// is acknowledged is read and noted, then more is issued, or asked for where none may be.
+    /// is acknowledged is read, noted and exported, then more is issued, or asked for where none may be.
     fn open_call(&self, random: &mut Random) -> Call {
         let Server { issued, acknowledged, .. } = *self.record;
         let full = issued == self.cluster.shape.places;
@@ -128,19 +129,21 @@ impl Useful<'_> {
         Call::Issue { server: self.server, request: self.request(random) }
     }
 
-    /// Reads or notes.
+    /// Reads, notes or exports.
     fn look(&self, random: &mut Random) -> Call {
         let members = self.used(|_| true);
         let (server, message) = (self.server, self.caller.message(random));
-        match members.as_slice() {
-            [] => Call::Stop { server },
-            members if random.chance(2) => {
-                Call::Note { server, replica: *random.pick(members), message }
-            }
-            members => {
+        if members.is_empty() {
+            return Call::Stop { server };
+        }
+        let replica = *random.pick(&members);
+        match random.below(3) {
+            0 => Call::Note { server, replica, message },
+            1 => {
                 let id = 1 + random.below(self.record.acknowledged + 1);
-                Call::Read { server, replica: *random.pick(members), id, message }
+                Call::Read { server, replica, id, message }
             }
+            _ => draw_export(random, self.cluster, server, replica, message),
         }
     }
 

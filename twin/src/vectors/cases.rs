@@ -1,7 +1,7 @@
 //! The list of vectors: fixed cases around every rule of the storage layer, filled with bytes from
 //! a fixed seed.
 
-use super::PUBLISHED;
+use super::{segments, LINE_LIMIT, PUBLISHED};
 use crate::crc::crc32;
 use crate::hex;
 use crate::medium::{
@@ -25,6 +25,9 @@ pub fn input() -> String {
     cases.appends();
     cases.truncations();
     cases.notes();
+    for line in segments::lines(&mut cases.random) {
+        cases.line(line);
+    }
     cases.lines
 }
 
@@ -35,7 +38,7 @@ struct Cases {
 
 impl Cases {
     fn line(&mut self, line: String) {
-        assert!(line.len() <= 2000);
+        assert!(line.len() <= LINE_LIMIT);
         self.lines += &line;
         self.lines += "\n";
     }

@@ -14,8 +14,8 @@ impl Answered {
         Answered(Cluster::fresh(shape).expect("an allowed shape"))
     }
 
-    pub fn call(&mut self, call: Call) -> Result<u64, u64> {
-        numbers(self.0.apply(&call))
+    pub fn call(&mut self, mut call: Call) -> Result<u64, u64> {
+        numbers(self.0.apply(&mut call))
     }
 
     pub fn take(&mut self, server: u64) -> Result<u64, u64> {

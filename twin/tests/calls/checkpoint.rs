@@ -1,7 +1,8 @@
 //! The checkpoint interval K (document 02, No. 1).
 
 use crate::answered::{answered, Answered};
-use twin::cluster::{Answer, Call, Cluster, Phase, Refusal, Reply, Shape, MOST_PLACES};
+use twin::cluster::{Answer, Call, Cluster, Phase, Refusal, Reply, Shape};
+use twin::medium::MOST_PLACES;
 use twin::random::Random;
 use twin::tries::caller::Caller;
 use twin::tries::checkpoint::{self, Checkpoint};
@@ -19,11 +20,11 @@ fn with_shape(mut scene: Scene, places: u64, interval: u64) -> Scene {
 fn every_call_declines_an_interval_outside_1_to_n() {
     for scene in all_scenes() {
         for interval in [0, PLACES + 1, PLACES + 2, MOST_PLACES, MOST_PLACES + 1, u64::MAX] {
-            let scene = with_shape(scene.clone(), PLACES, interval);
-            let mut cluster = scene.cluster.clone();
-            let reply = cluster.apply(&scene.call);
+            let before = with_shape(scene.clone(), PLACES, interval);
+            let mut scene = before.clone();
+            let reply = scene.apply();
             assert_eq!(reply, Err(Refusal::OutsideShape), "{:?}, K = {interval}", scene.kind);
-            assert!(cluster == scene.cluster);
+            assert!(scene == before);
         }
     }
 }
@@ -32,8 +33,7 @@ fn every_call_declines_an_interval_outside_1_to_n() {
 fn no_call_finds_an_interval_from_1_to_n_outside() {
     for scene in all_scenes() {
         for interval in 1..=PLACES {
-            let scene = with_shape(scene.clone(), PLACES, interval);
-            let reply = scene.cluster.clone().apply(&scene.call);
+            let reply = with_shape(scene.clone(), PLACES, interval).apply();
             assert_ne!(reply, Err(Refusal::OutsideShape), "{:?}, K = {interval}", scene.kind);
         }
     }
@@ -45,8 +45,7 @@ fn places_outside_their_values_fit_no_interval() {
     let outside = [(0, 0), (0, 1), (MOST_PLACES + 1, 1), (MOST_PLACES + 1, MOST_PLACES + 1)];
     for scene in all_scenes() {
         for (places, interval) in outside.into_iter().chain([(u64::MAX, 1), (u64::MAX, u64::MAX)]) {
-            let mut scene = with_shape(scene.clone(), places, interval);
-            let reply = scene.cluster.apply(&scene.call);
+            let reply = with_shape(scene.clone(), places, interval).apply();
             assert_eq!(reply, Err(Refusal::OutsideShape), "{:?}", scene.kind);
         }
     }
@@ -61,8 +60,7 @@ fn a_cluster_is_fresh_with_an_interval_from_1_to_n() {
 }
 
 fn reply(interval: u64, starting: u64, issued: u64) -> Reply {
-    let Scene { mut cluster, call, .. } = Checkpoint { interval, starting, issued }.scene();
-    cluster.apply(&call)
+    Checkpoint { interval, starting, issued }.scene().apply()
 }
 
 /// N is 4; each row is K, the starting mark, issued = acknowledged, and the reply.
@@ -117,12 +115,12 @@ fn issue_declines_exactly_if_the_true_difference_is_k_or_more() {
 }
 
 /// The reply to a call with this K, and what it leaves, as if K were N.
-fn with_interval(cluster: &Cluster, call: &Call, interval: u64) -> (Reply, Cluster) {
-    let mut cluster = cluster.clone();
+fn with_interval(cluster: &Cluster, call: &Call, interval: u64) -> (Reply, Cluster, Call) {
+    let (mut cluster, mut call) = (cluster.clone(), call.clone());
     cluster.shape.interval = interval;
-    let reply = cluster.apply(call);
+    let reply = cluster.apply(&mut call);
     cluster.shape.interval = cluster.shape.places;
-    (reply, cluster)
+    (reply, cluster, call)
 }
 
 /// On random states: whatever K is, a call does what it does with K = N; only issue may come to 23,
@@ -140,8 +138,7 @@ fn within_1_to_n_only_issue_looks_at_the_interval() {
         for interval in 1..places {
             let other = with_interval(&cluster, &call, interval);
             if other.0 != Err(Refusal::CheckpointDue) {
-                assert_eq!(other.0, whole.0, "{call:?}");
-                assert!(other.1 == whole.1, "{call:?}");
+                assert!(other == whole, "{call:?}");
                 continue;
             }
             due += 1;
@@ -161,7 +158,7 @@ fn with_an_interval_of_n_nothing_is_ever_due() {
         let mut draw = Draw { random: &mut random, places };
         let cluster = draw.cluster();
         let call = draw.call(&cluster);
-        let (reply, _) = with_interval(&cluster, &call, places);
+        let (reply, ..) = with_interval(&cluster, &call, places);
         assert_ne!(reply, Err(Refusal::CheckpointDue));
     }
     let mut full = 0;
@@ -178,7 +175,7 @@ fn list_fills_log(random: &mut Random, shape: Shape) -> bool {
     let caller = Caller::new(random);
     let mut full = false;
     for _ in 0..300 {
-        let reply = cluster.apply(&caller.next_call(random, &cluster));
+        let reply = cluster.apply(&mut caller.next_call(random, &cluster));
         assert_ne!(reply, Err(Refusal::CheckpointDue));
         full |= reply == Err(Refusal::Full);
     }

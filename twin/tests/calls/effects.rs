@@ -1,7 +1,7 @@
 //! What calls do, at the points where handed-in states tell readings of document 01 apart.
 
 use twin::cluster::{
-    Answer, Call, Cluster, Entry, Message, Phase, Refusal, Register, Request, Server, Standing,
+    Answer, Cluster, Entry, Message, Phase, Refusal, Register, Request, Server, Standing,
 };
 use twin::fate::{Fate, Left};
 use twin::locks::{lock_places, TABLE_MARKS};
@@ -377,8 +377,8 @@ fn given_bytes_that_may_pass() {
     }
     let torn = Message { fate: Fate::Cut(5, Left::Torn), given: slot };
     assert_eq!(cluster.send(SERVER_NUMBER, REPLICA as u64, &torn), Err(Refusal::UnfitFate));
-    let call = Call::Read { server: SERVER_NUMBER, replica: REPLICA as u64, id: 1, message: torn };
-    assert_eq!(cluster.apply(&call), Err(Refusal::UnfitFate));
+    let read = cluster.read(SERVER_NUMBER, REPLICA as u64, 1, &torn);
+    assert_eq!(read, Err(Refusal::UnfitFate));
 }
 
 /// What stands from R up is never looked at by refusal 2.
@@ -390,6 +390,6 @@ fn marks_from_r_up_are_not_read() {
         records.servers[SERVER].marks[4] = u64::MAX;
         records.servers[2].entries[6].closing = Some(u64::MAX);
         scene.cluster.locks[5] = u64::MAX;
-        assert!(scene.cluster.apply(&scene.call).is_ok(), "{:?}", scene.kind);
+        assert!(scene.apply().is_ok(), "{:?}", scene.kind);
     }
 }

@@ -60,8 +60,8 @@ fn issue_declines_exactly_if_the_estimate_is_above_the_clients_mark() {
     for Client { mark, estimate } in Client::all() {
         let above = estimate > mark;
         let expected = if above { locked(LOCK, estimate) } else { granted(GRANTED) };
-        let Scene { mut cluster, call, .. } = Client { mark, estimate }.scene();
-        assert_eq!(cluster.apply(&call), expected, "mark {mark}, estimate {estimate}");
+        let reply = Client { mark, estimate }.scene().apply();
+        assert_eq!(reply, expected, "mark {mark}, estimate {estimate}");
         met[usize::from(above)] += 1;
     }
     // Marks 0 to 3 with estimates 0 to 4 and one more.
@@ -136,11 +136,11 @@ fn a_client_that_has_read_everything_gets_every_lock() {
         let mut cluster = Cluster::fresh(shape).expect("an allowed shape");
         let caller = Caller::new(&mut random);
         for _ in 0..150 {
-            let call = match list % 2 {
+            let mut call = match list % 2 {
                 0 => caller.next_call(&mut random, &cluster),
                 _ => useful::next_call(&mut random, &caller, &cluster),
             };
-            let _ = cluster.apply(&call);
+            let _ = cluster.apply(&mut call);
             count += granted_with_all_read(&mut random, &cluster);
         }
     }
@@ -198,9 +198,9 @@ fn the_first_lock_above_the_clients_mark_is_given() {
         let mut scene = asking(locks);
         raise(&mut scene, 20, low);
         raise(&mut scene, 30, high);
-        let mut cluster = scene.cluster.clone();
-        assert_eq!(cluster.apply(&scene.call), locked(lock, estimate), "{locks:?}");
-        assert!(cluster == scene.cluster);
+        let before = scene.clone();
+        assert_eq!(scene.apply(), locked(lock, estimate), "{locks:?}");
+        assert!(scene == before);
     }
 }
 
@@ -211,7 +211,7 @@ fn locks_are_judged_before_any_is_written() {
     for locks in [&[10, 10][..], &[10, 10, 10, 10], &[10, 20, 10, 20], &[0, 0]] {
         let mut scene = asking(locks);
         let before = scene.cluster.clone();
-        assert_eq!(scene.cluster.apply(&scene.call), granted(6), "{locks:?}");
+        assert_eq!(scene.apply(), granted(6), "{locks:?}");
         assert_writes(&before, locks, 6, &scene.cluster);
     }
 }
@@ -245,7 +245,7 @@ fn on_any_table_the_words_hold() {
         scene.cluster.locks.iter_mut().for_each(|entry| *entry = random.below(most));
         let before = scene.cluster.clone();
         let conflict = by_the_words(before.table(SERVER), scene.request());
-        let reply = scene.cluster.apply(&scene.call);
+        let reply = scene.apply();
         if let Some((lock, estimate)) = conflict {
             assert_eq!(reply, locked(lock, estimate));
             assert!(scene.cluster == before);

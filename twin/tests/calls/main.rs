@@ -3,6 +3,7 @@
 mod answered;
 mod checkpoint;
 mod effects;
+mod export;
 mod frame;
 mod locks;
 mod refusals;

@@ -1,7 +1,7 @@
 //! Why a call is declined: for each call, every fault that it can meet, alone and with any others.
 //! The reply is the number among the faults that is checked first, and nothing changes.
 
-use twin::cluster::{Answer, Message, ORDER};
+use twin::cluster::{Answer, Message, FILES_ROW, ORDER};
 use twin::fate::{Fate, Left};
 use twin::random::Random;
 use twin::tries::faults::{faults_of, with_faults, Fault};
@@ -9,10 +9,15 @@ use twin::tries::scene::{all_scenes, Kind, Scene, PLACES, SERVER};
 
 /// The number that the scene's call is declined with; a declined call changes nothing.
 fn declined(scene: &Scene) -> Option<u64> {
-    let mut cluster = scene.cluster.clone();
-    let refusal = cluster.apply(&scene.call).err()?;
-    assert!(cluster == scene.cluster, "{:?} changes something", scene.kind);
-    Some(refusal.number())
+    declining_row(scene).map(|row| ORDER[row])
+}
+
+/// The row of the list.
+fn declining_row(scene: &Scene) -> Option<usize> {
+    let mut after = scene.clone();
+    let refusal = after.apply().err()?;
+    assert!(after == *scene, "{:?} changes something", scene.kind);
+    Some(refusal.row())
 }
 
 #[test]
@@ -28,25 +33,26 @@ fn each_fault_alone_gives_its_number() {
     for scene in all_scenes() {
         for fault in faults_of(&scene) {
             let scene = with_faults(&scene, &[&fault]);
-            assert_eq!(declined(&scene), Some(fault.number), "{}: {:?}", fault.name, scene.kind);
-            met.push(fault.number);
+            let row = declining_row(&scene);
+            assert_eq!(row, Some(fault.row), "{}: {:?}", fault.name, scene.kind);
+            met.push(fault.row);
         }
     }
-    assert!(ORDER.iter().all(|number| met.contains(number)), "{met:?}");
+    assert!((0..ORDER.len()).all(|row| met.contains(&row)), "{met:?}");
 }
 
 #[test]
-fn of_several_faults_the_first_number_of_the_list_is_given() {
+fn of_several_faults_the_first_of_the_list_is_given() {
     let mut random = Random::new(8);
     for scene in all_scenes() {
         let faults = faults_of(&scene);
         for _ in 0..1_000 {
             let rate = 1 + random.below(8);
             let some: Vec<&Fault> = faults.iter().filter(|_| random.chance(rate)).collect();
-            let first = some.iter().min_by_key(|fault| fault.rank()).map(|fault| fault.number);
+            let first = some.iter().map(|fault| fault.row).min();
             let names: Vec<&str> = some.iter().map(|fault| fault.name).collect();
             let scene = with_faults(&scene, &some);
-            assert_eq!(declined(&scene), first, "{names:?}: {:?}", scene.kind);
+            assert_eq!(declining_row(&scene), first, "{names:?}: {:?}", scene.kind);
         }
     }
 }
@@ -56,7 +62,7 @@ fn with_pairs(numbers: [u64; 2]) -> Vec<Scene> {
     let scenes = all_scenes();
     let scene = scenes.iter().find(|scene| scene.kind == Kind::Issue).expect("issue's scene");
     let faults = faults_of(scene);
-    let of = |number: u64| faults.iter().filter(move |fault| fault.number == number);
+    let of = |number: u64| faults.iter().filter(move |fault| fault.number() == number);
     let [first, second] = numbers;
     of(first).flat_map(|one| of(second).map(|other| with_faults(scene, &[one, other]))).collect()
 }
@@ -81,7 +87,23 @@ fn a_due_checkpoint_is_seen_after_a_full_log_and_before_locks() {
     }
 }
 
-/// Under another fate nobody hears of 18 to 22: the call is silent, and media and register stay.
+/// "for an export's two files this is checked after 20": whatever else is the matter is given first.
+#[test]
+fn the_lengths_of_exports_files_are_seen_last() {
+    let scenes = all_scenes();
+    let scene = scenes.iter().find(|scene| scene.kind == Kind::Export).expect("export's scene");
+    let faults = faults_of(scene);
+    let (files, others): (Vec<&Fault>, Vec<&Fault>) =
+        faults.iter().partition(|fault| fault.row == FILES_ROW);
+    assert_eq!((files.len(), others.last().map(|fault| fault.number())), (7, Some(20)));
+    for (file, other) in files.iter().flat_map(|file| others.iter().map(move |it| (file, it))) {
+        let scene = with_faults(scene, &[file, other]);
+        assert_eq!(declining_row(&scene), Some(other.row), "{}, {}", file.name, other.name);
+    }
+}
+
+/// Under another fate nobody hears of 18 to 22, nor of 1 for export's files: the call is silent, and
+/// media, register and files stay.
 #[test]
 fn what_the_receiver_declines_is_seen_only_if_answered() {
     // A register message is never cut.
@@ -97,11 +119,12 @@ fn what_the_receiver_declines_is_seen_only_if_answered() {
             for &fate in fates {
                 let mut scene = with_faults(&scene, &[fault]);
                 scene.set_message(Message::new(fate));
-                let mut cluster = scene.cluster.clone();
-                assert_eq!(cluster.apply(&scene.call), Ok(Answer::Silent), "{}", fault.name);
-                assert!(cluster.media == scene.cluster.media);
-                assert!(cluster.locks == scene.cluster.locks);
-                assert_eq!(cluster.records.register, scene.cluster.records.register);
+                let Scene { cluster: before, call, .. } = scene.clone();
+                assert_eq!(scene.apply(), Ok(Answer::Silent), "{}", fault.name);
+                assert!(scene.cluster.media == before.media);
+                assert!(scene.cluster.locks == before.locks);
+                assert_eq!(scene.cluster.records.register, before.records.register);
+                assert!(scene.call == call);
             }
         }
     }
@@ -111,7 +134,7 @@ fn what_the_receiver_declines_is_seen_only_if_answered() {
 #[test]
 fn an_unfit_source_is_seen_under_every_fate() {
     for scene in all_scenes() {
-        for fault in faults_of(&scene).iter().filter(|fault| fault.number == 17) {
+        for fault in faults_of(&scene).iter().filter(|fault| fault.number() == 17) {
             for fate in [Fate::Lost, Fate::AnswerLost, Fate::Cut(1, Left::Old)] {
                 let mut scene = with_faults(&scene, &[fault]);
                 scene.set_message(Message::new(fate));

@@ -224,6 +224,13 @@ impl History {
         })
     }
 
+    /// The bytes of the log of the server's session that it has acknowledged.
+    pub fn acknowledged_bytes(&self, server: u64) -> Vec<PlaceBytes> {
+        let session = &self.opened[&self.session(server)];
+        let log = session.logs.first().expect("a replica to read");
+        log.range(..=session.acknowledged).map(|(_, held)| held.bytes).collect()
+    }
+
     /// The last ID of the log of the server's session that names the lock.
     pub fn last_writer(&self, server: u64, lock: u64) -> Option<u64> {
         let log = self.opened.get(&self.session(server))?.logs.first()?;

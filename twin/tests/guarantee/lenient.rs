@@ -9,13 +9,14 @@ use twin::random::Random;
 
 /// Such a cluster does for a client what ours does for one whose mark is one more; but 11 goes by the
 /// client's own.
-fn lenient(cluster: &mut Cluster, call: &Call) -> Reply {
-    let mut call = call.clone();
-    if let Call::Issue { server, request } = &mut call {
-        let acknowledged = cluster.records.servers[*server as usize].acknowledged;
-        request.client_mark += u64::from(request.client_mark < acknowledged);
-    }
-    cluster.apply(&call)
+fn lenient(cluster: &mut Cluster, call: &mut Call) -> Reply {
+    let Call::Issue { server, request } = call else {
+        return cluster.apply(call);
+    };
+    let mut request = request.clone();
+    let acknowledged = cluster.records.servers[*server as usize].acknowledged;
+    request.client_mark += u64::from(request.client_mark < acknowledged);
+    cluster.issue(*server, &request)
 }
 
 /// Calls that are all answered, and what they bring about.
@@ -34,7 +35,7 @@ impl List {
 
     fn call(&mut self, call: Call) -> Result<u64, u64> {
         let before = self.cluster.clone();
-        let reply = (self.apply)(&mut self.cluster, &call);
+        let reply = (self.apply)(&mut self.cluster, &mut call.clone());
         self.history.add(&before, &call, &reply, &self.cluster);
         match reply {
             Ok(Answer::Number(value)) => Ok(value),

@@ -1,13 +1,14 @@
 //! The guarantee between sessions, on long random lists of calls from fresh clusters: every fate, a
-//! cut at any write, old servers that go on talking, sessions that the interval ends.
+//! cut at any write, old servers that go on talking, sessions that the interval ends, exports.
 
+mod exports;
 mod history;
 mod lenient;
 
 use std::collections::{BTreeMap, BTreeSet};
 
 use history::History;
-use twin::cluster::{Call, Cluster, Refusal, Reply, Shape, ORDER};
+use twin::cluster::{first_row, Call, Cluster, Refusal, Reply, Shape, FILES_ROW, ORDER};
 use twin::random::Random;
 use twin::tries::caller::{self, Caller};
 use twin::tries::useful;
@@ -28,8 +29,12 @@ struct Met {
     /// with the starting mark.
     at_start: u64,
     cuts: u64,
-    /// By number.
-    refusals: BTreeMap<u64, u64>,
+    /// By row of the list.
+    refusals: BTreeMap<usize, u64>,
+    /// Segments written, those with a record among them, and members dropped by an export.
+    exports: u64,
+    exported: u64,
+    dropped: u64,
     /// Sessions that were declined with 23 while they were the newest.
     due: u64,
     /// Those after which another was opened, and where that one acknowledged more.
@@ -40,10 +45,14 @@ struct Met {
 impl Met {
     fn count_call(&mut self, call: &Call, reply: &Reply, changed: bool) {
         match (call, reply) {
-            (_, Err(refusal)) => *self.refusals.entry(refusal.number()).or_default() += 1,
+            (_, Err(refusal)) => *self.refusals.entry(refusal.row()).or_default() += 1,
             (Call::Issue { request, .. }, _) => self.locked += u64::from(!request.locks.is_empty()),
             _ => self.cuts += u64::from(changed && caller::is_cut(call)),
         }
+    }
+
+    fn refused(&self, number: u64) -> u64 {
+        self.refusals[&first_row(number)]
     }
 
     /// Before the history has the call.
@@ -101,7 +110,7 @@ fn assert_within_interval(history: &History, interval: u64) {
 }
 
 /// Makes a call.
-type Apply = fn(&mut Cluster, &Call) -> Reply;
+type Apply = fn(&mut Cluster, &mut Call) -> Reply;
 
 /// A list of calls from a fresh cluster, and what it brought about.
 fn run_list(random: &mut Random, apply: Apply, met: &mut Met) -> (Shape, History) {
@@ -113,16 +122,17 @@ fn run_list(random: &mut Random, apply: Apply, met: &mut Met) -> (Shape, History
     // Calls of one list in two are drawn; those of the others bring the cluster on.
     let drawn = random.chance(2);
     for _ in 0..CALLS {
-        let call = if drawn {
+        let mut call = if drawn {
             caller.next_call(random, &cluster)
         } else {
             useful::next_call(random, &caller, &cluster)
         };
-        let before = cluster.clone();
-        let reply = apply(&mut cluster, &call);
+        let (before, lent) = (cluster.clone(), call.clone());
+        let reply = apply(&mut cluster, &mut call);
         if reply.is_err() {
             assert!(cluster == before, "a declined call changes nothing: {call:?}");
         }
+        exports::check(&history, &before, [&lent, &call], &reply, met);
         met.count_call(&call, &reply, cluster.media != before.media);
         met.count_writer(&history, &before, &call, &reply);
         due.extend(due_session(&history, &before, &call, &reply));
@@ -146,12 +156,16 @@ fn later_sessions_keep_what_earlier_ones_acknowledged() {
     assert!(met.locked > 2 * LISTS);
     assert!(met.at_writer > LISTS / 2);
     assert!(met.at_start > LISTS / 4);
-    assert!(met.refusals[&15] > LISTS);
+    assert!(met.refused(15) > LISTS);
     assert!(met.cuts > LISTS);
-    assert!(met.refusals[&23] > LISTS);
+    assert!(met.refused(23) > LISTS);
     assert!(met.forced > LISTS / 3);
     assert!(met.resumed > LISTS / 6);
-    // These cannot be met from a fresh cluster within reach.
-    let unmet: Vec<u64> = ORDER.into_iter().filter(|it| !met.refusals.contains_key(it)).collect();
-    assert_eq!(unmet, [1, 2, 18, 20, 21]);
+    assert!(met.exports > 3 * LISTS);
+    assert!(met.exported > 2 * LISTS);
+    assert!(met.dropped > LISTS / 4);
+    assert!(met.refusals[&FILES_ROW] > LISTS / 4);
+    // These cannot be met from a fresh cluster within reach: 1 only for export's files.
+    let unmet = (0..ORDER.len()).filter(|row| !met.refusals.contains_key(row));
+    assert_eq!(unmet.map(|row| ORDER[row]).collect::<Vec<_>>(), [1, 2, 18, 20, 21]);
 }

@@ -1,0 +1,92 @@
+//! What a call is counted as: its fate, K beside N, its locks beside the client's mark, the end of what it
+//! exports.
+
+use std::cmp::Ordering;
+
+use crate::cluster::{Answer, Call, Cluster, Refusal, Reply, Shape};
+use crate::fate::{Fate, Left};
+use crate::tries::clients::needed_mark;
+
+pub const FATES: [&str; 6] = ["answered", "lost", "answer lost", "cut old", "cut new", "cut torn"];
+
+/// What K can be beside N; "1" and "between" are below N.
+pub const INTERVALS: [&str; 6] = ["0", "1", "between", "N", "N + 1", "above"];
+
+/// Where the greatest estimate of a request's locks lies beside the client's mark. Up to "at" the
+/// request is granted.
+pub const ESTIMATES: [&str; 5] = ["below", "1 below", "at", "1 above", "above"];
+
+/// What ends an exported log: the acknowledged mark, both marks or the member's own, or there is none.
+pub const ENDS: [&str; 4] = ["empty", "acknowledged", "both", "own"];
+
+pub fn fate_of(call: &Call) -> Option<Fate> {
+    match call {
+        Call::Take { fate, .. } | Call::Open { fate, .. } => Some(*fate),
+        Call::Prepare { message, .. }
+        | Call::Copy { message, .. }
+        | Call::Trim { message, .. }
+        | Call::Send { message, .. }
+        | Call::Note { message, .. }
+        | Call::Read { message, .. }
+        | Call::Export { message, .. } => Some(message.fate),
+        Call::Issue { .. } | Call::Stop { .. } | Call::Reassign => None,
+    }
+}
+
+pub fn fate_name(fate: Fate) -> (&'static str, u64) {
+    match fate {
+        Fate::Answered => ("answered", 0),
+        Fate::Lost => ("lost", 0),
+        Fate::AnswerLost => ("answer lost", 0),
+        Fate::Cut(write, Left::Old) => ("cut old", write),
+        Fate::Cut(write, Left::New) => ("cut new", write),
+        Fate::Cut(write, Left::Torn) => ("cut torn", write),
+    }
+}
+
+/// `None` if R, N or a lent length is outside its values, whatever K is.
+pub fn interval_name(cluster: &Cluster) -> Option<&'static str> {
+    let Shape { replicas, places, interval } = cluster.shape;
+    if !Shape::whole(replicas, places).is_allowed() || !cluster.has_exact_lengths() {
+        return None;
+    }
+    Some(match interval {
+        0 => "0",
+        _ if interval == places => "N",
+        _ if interval == places + 1 => "N + 1",
+        _ if interval > places => "above",
+        1 => "1",
+        _ => "between",
+    })
+}
+
+/// `None` unless the request names a lock and nothing else stands in its way.
+pub fn estimate_name(cluster: &Cluster, call: &Call, reply: &Reply) -> Option<&'static str> {
+    let (Call::Issue { server, request }, Ok(_) | Err(Refusal::Locked { .. })) = (call, reply)
+    else {
+        return None;
+    };
+    let needed = needed_mark(cluster.table(*server as usize), &request.locks)?;
+    Some(match i128::from(needed) - i128::from(request.client_mark) {
+        ..-1 => "below",
+        -1 => "1 below",
+        0 => "at",
+        1 => "1 above",
+        2.. => "above",
+    })
+}
+
+/// `None` unless a segment was written.
+pub fn end_name(cluster: &Cluster, call: &Call, reply: &Reply) -> Option<&'static str> {
+    let (Call::Export { server, replica, .. }, Ok(Answer::Nothing)) = (call, reply) else {
+        return None;
+    };
+    let record = &cluster.records.servers[*server as usize];
+    let (own, acknowledged) = (record.marks[*replica as usize], record.acknowledged);
+    Some(match own.cmp(&acknowledged) {
+        _ if own.min(acknowledged) == 0 => "empty",
+        Ordering::Less => "own",
+        Ordering::Equal => "both",
+        Ordering::Greater => "acknowledged",
+    })
+}

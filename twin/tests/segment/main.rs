@@ -1,0 +1,7 @@
+//! Segment files (document 02, No. 3).
+
+mod round_trips;
+mod sha256;
+mod spoilt;
+mod words;
+mod worked;

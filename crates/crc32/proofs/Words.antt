@@ -43,7 +43,8 @@ bytes-in r (b ∷ s) p =
     ∙ sym (steps-add 8 (8 * length s) (bitXor (h * 256) (bitXor r b)))
     ∙ ap₂ bitSteps n (xor-under h r b (p .0))
 
-crc-append : (r : ℕ) (s t : List ℕ) → crcFrom r (s ++ t) ≡ crcFrom (crcFrom r s) t
+-- two lists one behind the other
+pub crc-append : (r : ℕ) (s t : List ℕ) → crcFrom r (s ++ t) ≡ crcFrom (crcFrom r s) t
 unfolding crcFrom
 crc-append r [] t = refl
 crc-append r (b ∷ s) t = crc-append (bitSteps 8 (bitXor r b)) s t

@@ -52,7 +52,7 @@ fn look_up(t: &Tables, x: u32, width: usize, before: u32) -> u32
 }
 
 // The register after the four bytes from an offset on.
-fn four(t: &Tables, s: &[u8], at: usize, before: u32) -> u32
+pub fn four(t: &Tables, s: &[u8], at: usize, before: u32) -> u32
     requires { ⌜ now t ≡ tablesOf ⌝ }
     requires { ⌜ at + 4 ≤ length (now s) ⌝ }
     ensures { λ r. ⌜ r ≡ crcFrom before (part at 4 (now (s .entry))) ⌝ }
@@ -61,7 +61,7 @@ fn four(t: &Tables, s: &[u8], at: usize, before: u32) -> u32
 }
 
 // The register after eight bytes. The upper four need not wait for the register, so they are looked up first.
-fn eight(t: &Tables, s: &[u8], at: usize, before: u32) -> u32
+pub fn eight(t: &Tables, s: &[u8], at: usize, before: u32) -> u32
     requires { ⌜ now t ≡ tablesOf ⌝ }
     requires { ⌜ at + 8 ≤ length (now s) ⌝ }
     ensures { λ r. ⌜ r ≡ crcFrom before (part at 8 (now (s .entry))) ⌝ }

@@ -8,6 +8,7 @@ ghost use mathlib.Core.Path.{_≡_};
 ghost use mathlib.Core.List.{List};
 ghost use Prim.Native.Nat.{ℕ, _+_, _*_, _<_, _≤_};
 ghost use lib.ListN.{length};
+ghost use Rattle.crc32.specs.Tables.{tablesOf};
 ghost use Rattle.storage.specs.Sizes.{placesLimit, mediumSize};
 ghost use Rattle.storage.specs.Operations.{HasPlace};
 ghost use Rattle.cluster.specs.declared.Records.{Records};
@@ -19,6 +20,7 @@ use crate::hear::hear;
 use checks::Change;
 use cluster::Server;
 use cluster::Shape;
+use crc32::Tables;
 use fate::Fate;
 use storage::operation::Operation;
 use storage::sizes::Place;
@@ -54,6 +56,7 @@ fn is_append(op: Operation) -> bool
 
 // Server v has replica i do an operation. The record of an append lies beside it in `src`.
 pub fn deliver(
+    t: &Tables,
     shape: Shape,
     v: Server,
     media: &mut [u8],
@@ -63,6 +66,7 @@ pub fn deliver(
     given: &Place,
     fate: Fate,
 ) -> Change
+    requires { ⌜ now t ≡ tablesOf ⌝ }
     requires { ⌜ Named shape v i (length (now media)) ⌝ }
     requires { ⌜ (HasPlace (shape .places) op) × (Behind (markAt v i) op) ⌝ }
     ensures { λ c. ⌜ ((r : Records) (s : ℕ) (tables : List ℕ) → serverAt r s ≡ v → resultOf (changed r s c) (now (media .exit)) tables ≡ operated shape (stateOf r (now (media .entry)) tables) s i op (now (src .entry)) fate (now (given .entry))) ⌝ }
@@ -72,6 +76,7 @@ pub fn deliver(
     let at = span.at;
     let end = span.end;
     let heard = replica::answer(
+        t,
         &mut media[at..end],
         shape.places,
         v.session,

@@ -1,6 +1,7 @@
 // What each call has its replica do, or why it is declined before the message: a call is its rows and its operation.
 ghost use mathlib.Core.Path.{_≡_};
 ghost use Prim.Native.Nat.{_<_, _≤_};
+ghost use Rattle.crc32.specs.Tables.{tablesOf};
 ghost use Rattle.cluster.specs.State.{activeAt, markAt};
 ghost use Rattle.cluster.specs.Refusals.{messageRows, firstOf};
 ghost use Rattle.cluster.specs.Effects.{targetOf};
@@ -15,6 +16,7 @@ use cluster::Closing;
 use cluster::Refusal;
 use cluster::Server;
 use cluster::Shape;
+use crc32::Tables;
 use fate::Fate;
 use quorum::Vote;
 use storage::operation::Operation;
@@ -53,13 +55,14 @@ pub fn is_active(v: Server, i: usize) -> bool
 }
 
 // 6 and 7, of a call that names one replica.
-pub fn check_message(shape: Shape, v: Server, i: usize, f: Fate, given: &Place) -> Check
+pub fn check_message(t: &Tables, shape: Shape, v: Server, i: usize, f: Fate, given: &Place) -> Check
+    requires { ⌜ now t ≡ tablesOf ⌝ }
     requires { ⌜ i < 7 ⌝ }
     ensures { λ k. ⌜ verdictOf k ≡ firstOf (messageRows shape v i f (now (given .entry))) ⌝ }
 {
     let k = also(
         Check::Pass,
-        unfit_fate(f, given, shape.places),
+        unfit_fate(t, f, given, shape.places),
         Refusal::UnfitFate,
     );
     also(k, !is_active(v, i), Refusal::ReplicaOut)
@@ -75,7 +78,8 @@ fn target_of(c: Closing) -> Target
 }
 
 // To the closing mark of the entry handed over at take. prepare is exempt from 7.
-fn plan_prepare(shape: Shape, v: Server, i: usize, f: Fate, given: &Place) -> Plan
+fn plan_prepare(t: &Tables, shape: Shape, v: Server, i: usize, f: Fate, given: &Place) -> Plan
+    requires { ⌜ now t ≡ tablesOf ⌝ }
     requires { ⌜ i < 7 ⌝ }
     ensures { λ p. ⌜ Planned p (firstOf (sendingRows kind.Prepare shape v i f (now (given .entry)))) (operationOf kind.Prepare (shape .replicas) v i) ⌝ }
 {
@@ -83,7 +87,7 @@ fn plan_prepare(shape: Shape, v: Server, i: usize, f: Fate, given: &Place) -> Pl
     let c = e.closing;
     let k = also(
         Check::Pass,
-        unfit_fate(f, given, shape.places),
+        unfit_fate(t, f, given, shape.places),
         Refusal::UnfitFate,
     );
     planned(k, Operation::Prepare(v.session, target_of(c)))
@@ -108,48 +112,60 @@ fn decided_mark(vote: Vote) -> u64
 }
 
 // To the majority mark.
-fn plan_trim(shape: Shape, v: Server, i: usize, f: Fate, given: &Place) -> Plan
+fn plan_trim(t: &Tables, shape: Shape, v: Server, i: usize, f: Fate, given: &Place) -> Plan
+    requires { ⌜ now t ≡ tablesOf ⌝ }
     requires { ⌜ (i < 7) × (shape .replicas ≤ 7) ⌝ }
     ensures { λ p. ⌜ Planned p (firstOf (sendingRows kind.Trim shape v i f (now (given .entry)))) (operationOf kind.Trim (shape .replicas) v i) ⌝ }
 {
     let recorded = v.marks[i];
     let vote = vote_among(v, shape.replicas as usize);
     let d = decided_mark(vote);
-    let k = check_message(shape, v, i, f, given);
+    let k = check_message(t, shape, v, i, f, given);
     let k = also(k, is_undecided(vote), Refusal::Undecided);
     let k = also(k, !(d < recorded), Refusal::NothingToDo);
     planned(k, Operation::Trim(d))
 }
 
 // With the starting mark as low-water mark and the recorded one as the local.
-fn plan_note(shape: Shape, v: Server, i: usize, f: Fate, given: &Place) -> Plan
+fn plan_note(t: &Tables, shape: Shape, v: Server, i: usize, f: Fate, given: &Place) -> Plan
+    requires { ⌜ now t ≡ tablesOf ⌝ }
     requires { ⌜ i < 7 ⌝ }
     ensures { λ p. ⌜ Planned p (firstOf (sendingRows kind.Note shape v i f (now (given .entry)))) (operationOf kind.Note (shape .replicas) v i) ⌝ }
 {
     let mark = v.marks[i];
-    let k = check_message(shape, v, i, f, given);
+    let k = check_message(t, shape, v, i, f, given);
     planned(k, Operation::Note(v.start, mark))
 }
 
 // The issued record, behind the recorded mark.
-fn plan_send(shape: Shape, v: Server, i: usize, f: Fate, given: &Place) -> Plan
+fn plan_send(t: &Tables, shape: Shape, v: Server, i: usize, f: Fate, given: &Place) -> Plan
+    requires { ⌜ now t ≡ tablesOf ⌝ }
     requires { ⌜ (i < 7) × (markAt v i ≤ 1000) ⌝ }
     ensures { λ p. ⌜ Planned p (firstOf (sendingRows kind.Send shape v i f (now (given .entry)))) (operationOf kind.Send (shape .replicas) v i) ⌝ }
 {
     let mark = v.marks[i];
-    let k = check_message(shape, v, i, f, given);
+    let k = check_message(t, shape, v, i, f, given);
     let k = also(k, mark + 1 != v.issued, Refusal::NothingToDo);
     planned(k, Operation::Append(mark))
 }
 
-pub fn plan_of(kind: Kind, shape: Shape, v: Server, i: usize, f: Fate, given: &Place) -> Plan
+pub fn plan_of(
+    t: &Tables,
+    kind: Kind,
+    shape: Shape,
+    v: Server,
+    i: usize,
+    f: Fate,
+    given: &Place,
+) -> Plan
+    requires { ⌜ now t ≡ tablesOf ⌝ }
     requires { ⌜ (i < 7) × (shape .replicas ≤ 7) × (markAt v i ≤ 1000) ⌝ }
     ensures { λ p. ⌜ Planned p (firstOf (sendingRows kind shape v i f (now (given .entry)))) (operationOf kind (shape .replicas) v i) ⌝ }
 {
     match kind {
-        Kind::Prepare => plan_prepare(shape, v, i, f, given),
-        Kind::Trim => plan_trim(shape, v, i, f, given),
-        Kind::Note => plan_note(shape, v, i, f, given),
-        Kind::Send => plan_send(shape, v, i, f, given),
+        Kind::Prepare => plan_prepare(t, shape, v, i, f, given),
+        Kind::Trim => plan_trim(t, shape, v, i, f, given),
+        Kind::Note => plan_note(t, shape, v, i, f, given),
+        Kind::Send => plan_send(t, shape, v, i, f, given),
     }
 }

@@ -44,7 +44,7 @@ mid-write a e m ys bs l p =
 
 -- ---- a part of a write
 
-take-drop : (p n : ℕ) (m : List ℕ) → take n (drop p m) ≡ drop p (take (p + n) m)
+pub take-drop : (p n : ℕ) (m : List ℕ) → take n (drop p m) ≡ drop p (take (p + n) m)
 take-drop zero n m = rw zero-add
 take-drop (suc p) n [] = rw (suc-add, take-nil)
 take-drop (suc p) n (x ∷ m) = rw suc-add (take-drop p n m)

@@ -5,14 +5,34 @@ use mathlib.Core.List.{List, [], _∷_, _++_, append-assoc, append-nil}
 use Prim.Native.Nat.{ℕ, zero, suc, _+_, _-_, _*_, _/_, _%_, _^_, _<_, _≤_}
 use native.Mathlib.Nat.{pow-suc, div-add-mod', div-lt-iff-lt-mul, mod-lt, zero-lt-suc, add-zero, zero-add, add-suc, suc-add}
 use lib.Arith.{lt-one, digits-div, digits-mod}
-use lib.ListN.{length, length-append}
-use Rattle.octets.specs.Octets.{writeAt, beFrom, beOf, beBytes, fieldsOf, widthsOf, total, Bytes}
+use native.Mathlib.Omega.{arith}
+use lib.ListN.{length, length-append, take, drop, length-drop, take-append-drop}
+use lib.Seq.{take-all}
+use Rattle.octets.specs.Octets.{part, writeAt, beFrom, beOf, beBytes, fieldsOf, widthsOf, total, Bytes}
 use Rattle.octets.proofs.Laws.{length-be, write-write}
 
 be-append : (a : ℕ) (s t : List ℕ) → beFrom a (s ++ t) ≡ beFrom (beFrom a s) t
 unfolding beFrom
 be-append a [] t = refl
 be-append a (b ∷ s) t = be-append (a * 256 + b) s t
+
+-- eight bytes are two fours
+be-four : (v : ℕ) (s : List ℕ) → length s ≡ 4 → beFrom v s ≡ v * 4294967296 + beFrom 0 s
+unfolding beFrom
+be-four v (a ∷ b ∷ c ∷ d ∷ []) h = omega arith
+be-four v [] h = absurd (omega arith)
+be-four v (a ∷ []) h = absurd (omega arith)
+be-four v (a ∷ b ∷ []) h = absurd (omega arith)
+be-four v (a ∷ b ∷ c ∷ []) h = absurd (omega arith)
+be-four v (a ∷ b ∷ c ∷ d ∷ e ∷ s) h = absurd (omega arith)
+
+pub be-halves : (s : List ℕ) → length s ≡ 8 → beOf (part 0 4 s) * 4294967296 + beOf (part 4 4 s) ≡ beOf s
+unfolding beOf
+be-halves s h =
+    let l : length (drop 4 s) ≡ 4 = omega (arith, length-drop 4 s) in
+    ap (λ (t : List ℕ). beFrom 0 (take 4 s) * 4294967296 + beFrom 0 t) (take-all 4 (drop 4 s) (omega arith))
+    ∙ sym (be-four (beFrom 0 (take 4 s)) (drop 4 s) l)
+    ∙ sym (be-append 0 (take 4 s) (drop 4 s)) ∙ ap (beFrom 0) (take-append-drop 4 s)
 
 be-zero : (k v : ℕ) → v < 256 ^ k → beFrom 0 (beBytes k v) ≡ v
 unfolding beFrom beBytes

@@ -1,7 +1,7 @@
 -- What a replica reads is what its medium holds, so what it says by that is its answer.
 -- Assumes nothing.
 use mathlib.Core.Path.{_≡_, refl, sym, ap, _∙_}
-use mathlib.Core.Bool.{Bool, true, false, not, _||_}
+use mathlib.Core.Bool.{Bool, true, false, not, _||_, cond}
 use mathlib.Core.List.{List}
 use Prim.Native.Nat.{ℕ, _≤_}
 use lib.ListN.{length}
@@ -25,7 +25,7 @@ use Rattle.storage.proofs.Marks.{performed-mark}
 use Rattle.cluster.specs.Refusals.{answered, isNeither, noSlot, promiseAbove, promiseDiffers, markDiffers, refuses}
 use Rattle.replica.specs.declared.Heard.{Heard}
 use Rattle.replica.specs.declared.Heard.the-variants.{Silent, Mark}
-use Rattle.replica.specs.Answers.{whenAnswered, says, prepares, otherPromise, otherMark, answerTo, readHeard, lacksSlot, readPromise, readMark, readDeclines, Behind}
+use Rattle.replica.specs.Answers.{whenAnswered, says, prepares, otherPromise, otherMark, declines, answerTo, readHeard, lacksSlot, readPromise, readMark, readDeclines, Behind}
 
 -- the number that follows is not looked at where one of the three declines
 says-any : (a b c : Bool) (n k : ℕ) → (a || b || c) ≡ true → says a b c n ≡ says a b c k
@@ -58,8 +58,25 @@ all-made (Cut w l) g m ws e = let z : _≡_ {A = ℕ} 0 1 = cc in absurd (omega 
 pub heard-mark : (f : Fate) (k n : ℕ) → answered f ≡ true → k ≡ n → Mark k ≡ whenAnswered f (Mark n)
 heard-mark f k n a e = rw (a, e)
 
+pub heard-said : (f : Fate) (h k : Heard) → answered f ≡ true → h ≡ k → h ≡ whenAnswered f k
+heard-said f h k a e = rw a e
+
 pub heard-none : (f : Fate) (h : Heard) → answered f ≡ false → Silent ≡ whenAnswered f h
 heard-none f h a = rw a
+
+either-way : (b : Bool) (m : List ℕ) → m ≡ cond b m m
+either-way true m = refl
+either-way false m = refl
+
+-- a lost message writes nothing and is silent, whatever the medium holds
+pub unmoved : (N s n : ℕ) (o : Operation) (bs g m : List ℕ) → record { heard = Silent; medium = m } ≡ answerTo N s n o bs Lost g m
+unfolding answerTo after
+unmoved N s n o bs g m = ap (λ (x : List ℕ). record { heard = Silent; medium = x }) (either-way (declines (prepares o) N s n m) m)
+
+-- a read that is not answered is silent, whatever the medium holds
+pub unread : (N s n : ℕ) (f : Fate) (m : List ℕ) → answered f ≡ false → Silent ≡ readHeard N s n f m
+unfolding readHeard
+unread N s n f m a = heard-none f _ a
 
 module _ (r : Read) (N : ℕ) (m : List ℕ) (e : r .places ≡ N) (a : AsRead r m) where
   slot-of : r .slot ≡ storedSlot m

@@ -3,13 +3,15 @@ ghost use mathlib.Core.Path.{_≡_};
 ghost use mathlib.Core.Bool.{_||_, true, false};
 ghost use Prim.Native.Nat.{_<_};
 ghost use lib.ListN.{length};
+ghost use Rattle.crc32.specs.Tables.{tablesOf};
 ghost use Rattle.storage.specs.Sizes.{placeSize};
 ghost use Rattle.storage.specs.Operations.{HasPlace};
 ghost use Rattle.cluster.specs.Refusals.{answered, isNeither, refuses};
 ghost use Rattle.replica.specs.Answers.{says, whenAnswered, prepares, Answered, answerTo, readHeard, lacksSlot, readPromise, readMark, readDeclines, Medium, Behind};
 use cluster::Refusal;
+use crc32::Tables;
 use fate::Fate;
-use storage::operation;
+use medium::operation;
 use storage::operation::Operation;
 use storage::operation::Read;
 use storage::slot::Current;
@@ -106,7 +108,9 @@ fn judged(r: Read, session: u64, recorded: u64, prepare: bool) -> Judgement
 }
 
 // The answer to an operation, and its writes under the message's fate. The record of an append lies beside it in `src`.
+// A lost message writes nothing and is not heard, so its replica need not read its medium.
 pub fn answer(
+    t: &Tables,
     m: &mut [u8],
     places: u64,
     session: u64,
@@ -116,47 +120,53 @@ pub fn answer(
     given: &[u8],
     f: Fate,
 ) -> Heard
+    requires { ⌜ now t ≡ tablesOf ⌝ }
     requires { ⌜ Medium places (length (now m)) ⌝ }
     requires { ⌜ (HasPlace places op) × (Behind recorded op) ⌝ }
     requires { ⌜ (length (now src) ≡ placeSize) × (length (now given) ≡ placeSize) ⌝ }
     ensures { λ h. ⌜ record { heard = h; medium = now (m .exit) } ≡ answerTo places session recorded op (now (src .entry)) f (now (given .entry)) (now (m .entry)) ⌝ }
 {
-    let t = crc32::tables();
-    let r = operation::read_medium(&t, m, places as usize);
+    if let Fate::Lost = f {
+        return Heard::Silent;
+    }
+    let r = operation::read_medium(t, m, places as usize);
     let j = judged(r, session, recorded, is_prepare(op));
     let h = j.heard;
     if j.declines {
         return under(f, h);
     }
-    operation::perform(&t, m, r, op, src, given, f);
+    operation::perform(t, m, r, op, src, given, f);
     if answers(f) {
-        return Heard::Mark(operation::mark_after(&t, m, places as usize, op, r.mark as u64));
+        return Heard::Mark(operation::mark_after(t, m, places as usize, op, r.mark as u64));
     }
     Heard::Silent
 }
 
-// read: nothing is written.
-pub fn read(m: &[u8], places: u64, session: u64, recorded: u64, f: Fate) -> Heard
+// read: nothing is written, so a replica whose answer is not heard need not read its medium.
+pub fn read(t: &Tables, m: &[u8], places: u64, session: u64, recorded: u64, f: Fate) -> Heard
+    requires { ⌜ now t ≡ tablesOf ⌝ }
     requires { ⌜ Medium places (length (now m)) ⌝ }
     ensures { λ h. ⌜ h ≡ readHeard places session recorded f (now (m .entry)) ⌝ }
 {
-    let t = crc32::tables();
-    let r = operation::read_medium(&t, m, places as usize);
+    if !answers(f) {
+        return Heard::Silent;
+    }
+    let r = operation::read_medium(t, m, places as usize);
     let j = judged(r, session, recorded, false);
     let h = j.heard;
     if j.declines {
-        return under(f, h);
+        return h;
     }
-    under(f, Heard::Mark(r.mark as u64))
+    Heard::Mark(r.mark as u64)
 }
 
 // Whether a replica would decline a message: what copy asks of the replica that it reads.
-pub fn unfit(m: &[u8], places: u64, session: u64, recorded: u64) -> bool
+pub fn unfit(t: &Tables, m: &[u8], places: u64, session: u64, recorded: u64) -> bool
+    requires { ⌜ now t ≡ tablesOf ⌝ }
     requires { ⌜ Medium places (length (now m)) ⌝ }
     ensures { λ b. ⌜ b ≡ refuses places session recorded (now (m .entry)) ⌝ }
 {
-    let t = crc32::tables();
-    let r = operation::read_medium(&t, m, places as usize);
+    let r = operation::read_medium(t, m, places as usize);
     let j = judged(r, session, recorded, false);
     j.declines
 }

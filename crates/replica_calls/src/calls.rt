@@ -55,7 +55,7 @@ fn phases_of(kind: Kind) -> Phases
     }
 }
 
-// A call that is admitted: its plan, and the message.
+// A call that is admitted: its plan, and the message. The CRC tables are made here, once for both.
 fn served(
     kind: Kind,
     shape: Shape,
@@ -68,11 +68,12 @@ fn served(
     requires { ⌜ Named shape v i (length (now media)) ⌝ }
     ensures { λ c. ⌜ ((r : Records) (s : ℕ) (tables : List ℕ) → serverAt r s ≡ v → resultOf (changed r s c) (now (media .exit)) tables ≡ onceAdmitted shape (stateOf r (now (media .entry)) tables) (inputOf (callOf kind s i fate) (now (given .entry)))) ⌝ }
 {
+    let t = crc32::tables();
     let held = v.held;
-    let plan = plan_of(kind, shape, v, i, fate, given);
+    let plan = plan_of(&t, kind, shape, v, i, fate, given);
     match plan {
         Plan::Refuse(why) => unchanged_server(v, why),
-        Plan::Do(op) => deliver(shape, v, media, i, op, &held, given, fate),
+        Plan::Do(op) => deliver(&t, shape, v, media, i, op, &held, given, fate),
     }
 }
 

@@ -3,6 +3,7 @@ ghost use mathlib.Core.Path.{_≡_};
 ghost use mathlib.Core.List.{List};
 ghost use Prim.Native.Nat.{ℕ, _+_, _*_, _<_, _≤_};
 ghost use lib.ListN.{length};
+ghost use Rattle.crc32.specs.Tables.{tablesOf};
 ghost use Rattle.storage.specs.Sizes.{mediumSize};
 ghost use Rattle.storage.specs.Log.{placeAt};
 ghost use Rattle.storage.specs.Operations.{mediumAt};
@@ -28,6 +29,7 @@ use cluster::Records;
 use cluster::Refusal;
 use cluster::Server;
 use cluster::Shape;
+use crc32::Tables;
 use delivery::deliver;
 use delivery::fates::unfit_fate;
 use delivery::plan::is_active;
@@ -44,7 +46,8 @@ fn not_two(r: u64, from: u64, to: u64) -> bool
 }
 
 // 17: the replica that is read would decline.
-fn source_unfit(shape: Shape, v: Server, media: &[u8], from: usize) -> bool
+fn source_unfit(t: &Tables, shape: Shape, v: Server, media: &[u8], from: usize) -> bool
+    requires { ⌜ now t ≡ tablesOf ⌝ }
     requires { ⌜ Named shape v from (length (now media)) ⌝ }
     ensures { λ c. ⌜ c ≡ refusesAt (shape .places) v (now (media .entry)) from ⌝ }
 {
@@ -52,11 +55,12 @@ fn source_unfit(shape: Shape, v: Server, media: &[u8], from: usize) -> bool
     let span = span_of(shape.places, from);
     let at = span.at;
     let end = span.end;
-    replica::unfit(&media[at..end], shape.places, v.session, recorded)
+    replica::unfit(t, &media[at..end], shape.places, v.session, recorded)
 }
 
 // 6, 7, 16 and 17.
 fn check_copy(
+    t: &Tables,
     shape: Shape,
     v: Server,
     media: &[u8],
@@ -65,6 +69,7 @@ fn check_copy(
     f: Fate,
     given: &Place,
 ) -> Check
+    requires { ⌜ now t ≡ tablesOf ⌝ }
     requires { ⌜ (Named shape v from (length (now media))) × (to < 7) ⌝ }
     ensures { λ k. ⌜ verdictOf k ≡ firstOf (copyRows shape v (now (media .entry)) from to f (now (given .entry))) ⌝ }
 {
@@ -72,13 +77,17 @@ fn check_copy(
     let mark = v.marks[to];
     let k = also(
         Check::Pass,
-        unfit_fate(f, given, shape.places),
+        unfit_fate(t, f, given, shape.places),
         Refusal::UnfitFate,
     );
     let out = either(!is_active(v, from), !is_active(v, to));
     let k = also(k, out, Refusal::ReplicaOut);
     let k = also(k, !(mark < source), Refusal::NothingToDo);
-    also(k, source_unfit(shape, v, media, from), Refusal::UnfitSource)
+    also(
+        k,
+        source_unfit(t, shape, v, media, from),
+        Refusal::UnfitSource,
+    )
 }
 
 // Place n of replica i.
@@ -90,10 +99,10 @@ pub fn place_of(shape: Shape, media: &[u8], i: usize, n: u64) -> Place
     let span = span_of(shape.places, i);
     let at = span.at;
     let end = span.end;
-    storage::medium::read_place(&media[at..end], n)
+    medium::log::read_place(&media[at..end], n)
 }
 
-// A copy that is admitted.
+// A copy that is admitted. The CRC tables are made here, once for both replicas.
 fn copied(
     shape: Shape,
     v: Server,
@@ -106,13 +115,15 @@ fn copied(
     requires { ⌜ (Named shape v from (length (now media))) × (Named shape v to (length (now media))) ⌝ }
     ensures { λ c. ⌜ ((r : Records) (s : ℕ) (tables : List ℕ) → serverAt r s ≡ v → resultOf (changed r s c) (now (media .exit)) tables ≡ onceAdmitted shape (stateOf r (now (media .entry)) tables) (inputOf (call.Copy s from to fate) (now (given .entry)))) ⌝ }
 {
+    let t = crc32::tables();
     let mark = v.marks[to];
-    let k = check_copy(shape, v, media, from, to, fate, given);
+    let k = check_copy(&t, shape, v, media, from, to, fate, given);
     match k {
         Check::Refuse(why) => unchanged_server(v, why),
         Check::Pass => {
             let src = place_of(shape, media, from, mark + 1);
             deliver(
+                &t,
                 shape,
                 v,
                 media,

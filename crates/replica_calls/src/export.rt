@@ -4,6 +4,7 @@ ghost use mathlib.Core.Path.{_≡_};
 ghost use mathlib.Core.List.{List};
 ghost use Prim.Native.Nat.{ℕ, _≤_, _<_};
 ghost use lib.ListN.{length};
+ghost use Rattle.crc32.specs.Tables.{tablesOf};
 ghost use Rattle.storage.specs.Sizes.{placesLimit, mediumSize};
 ghost use Rattle.storage.specs.Log.{placesFrom};
 ghost use Rattle.segment.specs.Pair.{Files, AllSized, pairOf};
@@ -26,6 +27,7 @@ use cluster::Records;
 use cluster::Refusal;
 use cluster::Server;
 use cluster::Shape;
+use crc32::Tables;
 use delivery::plan::check_message;
 use delivery::span_of;
 use fate::Fate;
@@ -63,6 +65,7 @@ fn other_sizes(m: &[u8], k: usize, file: usize, index: usize) -> bool
 
 // What the server makes of the answer: a mark comes with the two files of the medium's first k places.
 fn export_by(
+    t: &Tables,
     records: Records,
     s: usize,
     i: usize,
@@ -73,6 +76,7 @@ fn export_by(
     file: &mut [u8],
     index: &mut [u8],
 ) -> Outcome
+    requires { ⌜ now t ≡ tablesOf ⌝ }
     requires { ⌜ (s < 4) × (i < 7) ⌝ }
     requires { ⌜ (mediumSize k ≤ length (now m)) × (k ≤ placesLimit) ⌝ }
     requires { ⌜ ((n : ℕ) → heard ≡ Mark n → AllSized k (now m)) ⌝ }
@@ -84,13 +88,13 @@ fn export_by(
     if other_sizes(m, k, file.len(), index.len()) {
         return declined(records, Refusal::OutsideShape);
     }
-    let t = crc32::tables();
-    pair::write_pair(&t, file, index, stamp, m, k);
+    pair::write_pair(t, file, index, stamp, m, k);
     read_by(records, s, i, [0u8; PLACE], heard)
 }
 
 // The message.
 fn export_sent(
+    t: &Tables,
     shape: Shape,
     records: Records,
     media: &[u8],
@@ -101,6 +105,7 @@ fn export_sent(
     index: &mut [u8],
     fate: Fate,
 ) -> Outcome
+    requires { ⌜ now t ≡ tablesOf ⌝ }
     requires { ⌜ (Named shape (serverAt records s) i (length (now media))) × (s < 4) ⌝ }
     ensures { λ o. ⌜ ((given tables : List ℕ) → resultOf o (now (media .entry)) tables ≡ onceSent shape (stateOf records (now (media .entry)) tables) (exportOf (call.Export s i fate) given stamp (now (file .entry)) (now (index .entry)))) × (filesOf (now (file .exit)) (now (index .exit)) ≡ ifOk (replyOf (o .answer)) (pairOf stamp (exportedPlaces (shape .places) (serverAt records s) i (now (media .entry)))) (filesOf (now (file .entry)) (now (index .entry)))) ⌝ }
 {
@@ -109,12 +114,23 @@ fn export_sent(
     let span = span_of(shape.places, i);
     let at = span.at;
     let end = span.end;
-    let heard = replica::read(&media[at..end], shape.places, v.session, recorded, fate);
+    let heard = replica::read(t, &media[at..end], shape.places, v.session, recorded, fate);
     let k = exported_mark(v, i);
-    export_by(records, s, i, heard, &media[at..end], k, stamp, file, index)
+    export_by(
+        t,
+        records,
+        s,
+        i,
+        heard,
+        &media[at..end],
+        k,
+        stamp,
+        file,
+        index,
+    )
 }
 
-// An export that is admitted.
+// An export that is admitted. The CRC tables are made here, once for the check, the message and the files.
 fn export_admitted(
     shape: Shape,
     records: Records,
@@ -130,11 +146,12 @@ fn export_admitted(
     requires { ⌜ (Named shape (serverAt records s) i (length (now media))) × (s < 4) ⌝ }
     ensures { λ o. ⌜ ((tables : List ℕ) → resultOf o (now (media .entry)) tables ≡ onceAdmitted shape (stateOf records (now (media .entry)) tables) (exportOf (call.Export s i fate) (now (given .entry)) stamp (now (file .entry)) (now (index .entry)))) × (filesOf (now (file .exit)) (now (index .exit)) ≡ ifOk (replyOf (o .answer)) (pairOf stamp (exportedPlaces (shape .places) (serverAt records s) i (now (media .entry)))) (filesOf (now (file .entry)) (now (index .entry)))) ⌝ }
 {
+    let t = crc32::tables();
     let v = records.servers[s];
-    let k = check_message(shape, v, i, fate, given);
+    let k = check_message(&t, shape, v, i, fate, given);
     match k {
         Check::Refuse(why) => declined(records, why),
-        Check::Pass => export_sent(shape, records, media, s, i, stamp, file, index, fate),
+        Check::Pass => export_sent(&t, shape, records, media, s, i, stamp, file, index, fate),
     }
 }
 

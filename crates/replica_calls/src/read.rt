@@ -3,6 +3,7 @@ ghost use mathlib.Core.Path.{_≡_};
 ghost use mathlib.Core.List.{List};
 ghost use Prim.Native.Nat.{ℕ, _<_, _≤_};
 ghost use lib.ListN.{length};
+ghost use Rattle.crc32.specs.Tables.{tablesOf};
 ghost use Rattle.cluster.specs.declared.Call.the-variants as call;
 ghost use Rattle.cluster.specs.State.{serverAt};
 ghost use Rattle.cluster.specs.Refusals.{nothingToRead, readRows, firstOf};
@@ -25,6 +26,7 @@ use cluster::Refusal;
 use cluster::Server;
 use cluster::Shape;
 use cluster::put_server;
+use crc32::Tables;
 use delivery::hear::no_mark;
 use delivery::hear::with_heard;
 use delivery::hear::with_unheard;
@@ -49,11 +51,20 @@ fn nothing_to_read(v: Server, i: usize, id: u64) -> bool
 }
 
 // 6, 7 and 16.
-fn check_read(shape: Shape, v: Server, i: usize, id: u64, f: Fate, given: &Place) -> Check
+fn check_read(
+    t: &Tables,
+    shape: Shape,
+    v: Server,
+    i: usize,
+    id: u64,
+    f: Fate,
+    given: &Place,
+) -> Check
+    requires { ⌜ now t ≡ tablesOf ⌝ }
     requires { ⌜ i < 7 ⌝ }
     ensures { λ k. ⌜ verdictOf k ≡ firstOf (readRows shape v i id f (now (given .entry))) ⌝ }
 {
-    let k = check_message(shape, v, i, f, given);
+    let k = check_message(t, shape, v, i, f, given);
     also(k, nothing_to_read(v, i, id), Refusal::NothingToDo)
 }
 
@@ -76,6 +87,7 @@ pub fn read_by(records: Records, s: usize, i: usize, place: Place, heard: Heard)
 
 // The message.
 fn read_sent(
+    t: &Tables,
     shape: Shape,
     records: Records,
     media: &[u8],
@@ -84,6 +96,7 @@ fn read_sent(
     id: u64,
     fate: Fate,
 ) -> Outcome
+    requires { ⌜ now t ≡ tablesOf ⌝ }
     requires { ⌜ (Named shape (serverAt records s) i (length (now media))) × (s < 4) × (1 ≤ id) × (id ≤ shape .places) ⌝ }
     ensures { λ o. ⌜ ((given tables : List ℕ) → resultOf o (now (media .entry)) tables ≡ onceSent shape (stateOf records (now (media .entry)) tables) (inputOf (call.Read s i id fate) given)) ⌝ }
 {
@@ -92,12 +105,12 @@ fn read_sent(
     let span = span_of(shape.places, i);
     let at = span.at;
     let end = span.end;
-    let heard = replica::read(&media[at..end], shape.places, v.session, recorded, fate);
+    let heard = replica::read(t, &media[at..end], shape.places, v.session, recorded, fate);
     let place = place_of(shape, media, i, id);
     read_by(records, s, i, place, heard)
 }
 
-// A read that is admitted.
+// A read that is admitted. The CRC tables are made here, once for the check and the message.
 fn read_admitted(
     shape: Shape,
     records: Records,
@@ -111,11 +124,12 @@ fn read_admitted(
     requires { ⌜ (Named shape (serverAt records s) i (length (now media))) × (s < 4) ⌝ }
     ensures { λ o. ⌜ ((tables : List ℕ) → resultOf o (now (media .entry)) tables ≡ onceAdmitted shape (stateOf records (now (media .entry)) tables) (inputOf (call.Read s i id fate) (now (given .entry)))) ⌝ }
 {
+    let t = crc32::tables();
     let v = records.servers[s];
-    let k = check_read(shape, v, i, id, fate, given);
+    let k = check_read(&t, shape, v, i, id, fate, given);
     match k {
         Check::Refuse(why) => declined(records, why),
-        Check::Pass => read_sent(shape, records, media, s, i, id, fate),
+        Check::Pass => read_sent(&t, shape, records, media, s, i, id, fate),
     }
 }
 

@@ -1,6 +1,6 @@
 -- The cases of a place's validity, in the order in which the code tries them, and all that it says.
 -- Assumes nothing.
-use mathlib.Core.Path.{_≡_, sym, ap, _∙_}
+use mathlib.Core.Path.{_≡_, refl, sym, ap, _∙_}
 use mathlib.Core.Bool.{Bool, true, false, _&&_, and-false, and-eq-true-iff}
 use mathlib.Core.List.{List}
 use Prim.Native.Nat.{ℕ, _+_, _-_, _<_, _≤_}
@@ -36,12 +36,20 @@ module _ (n : ℕ) (s : List ℕ) where
     bad-size h = not-formed (layout.bad-size placeLayout (sizeOf s) s l h)
 
     module _ (z : sizeOf s ≤ dataLimit) where
-      pub bad-tail : allZero (tailOf s) ≡ false → false ≡ validPlace n s
+      bad-tail : allZero (tailOf s) ≡ false → false ≡ validPlace n s
       bad-tail h = not-formed (layout.bad-tail placeLayout (sizeOf s) s l z h)
 
-      pub by-check : idOf s ≡ n → allZero (tailOf s) ≡ true → checked (checkOffset placeLayout) s ≡ validPlace n s
+      by-check : idOf s ≡ n → allZero (tailOf s) ≡ true → checked (checkOffset placeLayout) s ≡ validPlace n s
       unfolding validPlace
       by-check i h = sym (rw (eq-eqb (idOf s) n i) (layout.by-check placeLayout (sizeOf s) s l z h))
+
+      -- the zeros and the check are what is left
+      pub by-tail : idOf s ≡ n → validPlace n s ≡ (allZero (tailOf s) && checked (checkOffset placeLayout) s)
+      by-tail i = go (allZero (tailOf s)) refl
+        where
+          go : (b : Bool) → allZero (tailOf s) ≡ b → validPlace n s ≡ (b && checked (checkOffset placeLayout) s)
+          go true h = sym (by-check i h)
+          go false h = sym (bad-tail h)
 
 -- the bytes behind the data, as the code takes them
 pub tail-is : (k : ℕ) (s : List ℕ) → k ≡ sizeOf s → take (checkOffset placeLayout - (dataOffset placeLayout + k)) (drop (dataOffset placeLayout + k) s) ≡ tailOf s

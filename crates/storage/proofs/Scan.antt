@@ -47,10 +47,6 @@ pub mark-stop : (N n : ℕ) (m : List ℕ) → n < N → validPlace (n + 1) (pla
 unfolding rest run placesFrom
 mark-stop N n m h v = rw (more N n h, v) (omega arith)
 
-pub mark-end : (N n : ℕ) (m : List ℕ) → N ≤ n → n + rest N n m ≡ n
-unfolding rest run placesFrom
-mark-end N n m h = let e : N - n ≡ 0 = omega arith in rw e (omega arith)
-
 -- one more place of a log that goes on
 onward : (N k : ℕ) (m : List ℕ) → markOf N m ≡ k + rest N k m → suc k ≤ markOf N m → markOf N m ≡ suc k + rest N (suc k) m
 onward N k m e h = go (validPlace (k + 1) (placeAt (k + 1) m)) refl

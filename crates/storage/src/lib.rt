@@ -1,4 +1,3 @@
-pub mod medium;
 pub mod operation;
 pub mod place;
 pub mod sizes;

@@ -1,12 +1,14 @@
 // A place of the log: its record written and read, and its validity.
 ghost use mathlib.Core.Path.{_≡_};
+ghost use mathlib.Core.Bool.{true, _&&_};
 ghost use Prim.Native.Nat.{_+_, _≤_};
 ghost use lib.ListN.{length, take, drop};
 ghost use Rattle.octets.specs.Octets.{part, writeAt, beOf, fieldsOf, offsetOf};
+ghost use Rattle.crc32.specs.Crc32.{checked};
 ghost use Rattle.crc32.specs.Tables.{tablesOf};
-ghost use Rattle.storage.specs.Layout.{dataOffset, padded};
+ghost use Rattle.storage.specs.Layout.{dataOffset, checkOffset, padded};
 ghost use Rattle.storage.specs.Sizes.{placeLayout, placeSize, dataLimit};
-ghost use Rattle.storage.specs.Places.{validPlace, recordBytes, placeNumbers, fieldsIn, sizeOf};
+ghost use Rattle.storage.specs.Places.{validPlace, recordBytes, placeNumbers, fieldsIn, idOf, sizeOf};
 use crate::sizes::CLIENT_AT;
 use crate::sizes::DATA_AT;
 use crate::sizes::DATA_LIMIT;
@@ -32,10 +34,9 @@ pub struct Fields {
     pub header: u32,
 }
 
-// Whether s is valid as place n.
-pub fn valid(t: &Tables, s: &[u8], n: u64) -> bool
-    requires { ⌜ now t ≡ tablesOf ⌝ }
-    ensures { λ r. ⌜ r ≡ validPlace n (now (s .entry)) ⌝ }
+// Whether only the check of s as place n is left to judge: its length, the ID, the data's length and the zeros are as they have to be.
+pub fn fields_fit(s: &[u8], n: u64) -> bool
+    ensures { λ b. ⌜ (validPlace n (now (s .entry)) ≡ (b && checked (checkOffset placeLayout) (now (s .entry)))) × (b ≡ true → (length (now (s .entry)) ≡ placeSize) × (idOf (now (s .entry)) ≡ n)) ⌝ }
 {
     if s.len() != PLACE {
         return false;
@@ -48,7 +49,15 @@ pub fn valid(t: &Tables, s: &[u8], n: u64) -> bool
         return false;
     }
     let k = DATA_AT + size as usize;
-    if !octets::all_zero(&s[k..PLACE_CHECKED]) {
+    octets::all_zero(&s[k..PLACE_CHECKED])
+}
+
+// Whether s is valid as place n. The check comes last, since it takes longest.
+pub fn valid(t: &Tables, s: &[u8], n: u64) -> bool
+    requires { ⌜ now t ≡ tablesOf ⌝ }
+    ensures { λ r. ⌜ r ≡ validPlace n (now (s .entry)) ⌝ }
+{
+    if !fields_fit(s, n) {
         return false;
     }
     crc32::check(t, s, PLACE_CHECKED)

@@ -65,7 +65,7 @@ fn tell(t: &Tables, line: &[u8], places: usize, m: &mut [u8]) -> bool
     if !hex::read(line::field(line, 2), m) {
         return false;
     }
-    let r = storage::operation::read_medium(t, m, places);
+    let r = medium::operation::read_medium(t, m, places);
     let c = r.current;
     let x = r.slot;
     print::number(r.mark as u64);
@@ -122,7 +122,7 @@ fn perform(
     requires { ⌜ length (now m) ≡ mediumSize places ⌝ }
     requires { ⌜ length (now given) ≡ placeSize ⌝ }
 {
-    let r = storage::operation::read_medium(t, m, places);
+    let r = medium::operation::read_medium(t, m, places);
     let mut src = [0u8; PLACE];
     let Asked::Is(op) = operation::read(line, c, r.mark as u64, &mut src) else {
         return false;
@@ -130,6 +130,6 @@ fn perform(
     if !operation::has_place(op, places as u64) {
         return false;
     }
-    storage::operation::perform(t, m, r, op, &src, given, f);
+    medium::operation::perform(t, m, r, op, &src, given, f);
     true
 }

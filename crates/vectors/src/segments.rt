@@ -76,7 +76,7 @@ fn write_out(t: &Tables, z: Stamp, m: &[u8], places: usize)
     requires { ⌜ length (now m) ≡ mediumSize places ⌝ }
     requires { ⌜ places ≤ 14 ⌝ }
 {
-    let k = storage::medium::mark(t, m, places);
+    let k = medium::log::mark(t, m, places);
     let mut file = [0u8; DATA];
     let mut index = [0u8; INDEX];
     let size = data_size(m, k);

@@ -26,7 +26,7 @@ answer-requires : tie.Need-answer-requires
 answer-requires c κs =
     let a = c .before .before .before .before .before .before .args in
     let p = c .before .before .before .before .before .before .pre in
-    (record { few = p .0 .few; size = lent-size (a .shape .places) (a .i) _ _ (a .media .now) (record { starts = c .before .before .before .span-of .ensures .0; ends = c .before .before .before .span-of .ensures .1 }) (p .0 .within) }, (p .1, (search needs, search needs)))
+    (p .0, (record { few = p .1 .0 .few; size = lent-size (a .shape .places) (a .i) _ _ (a .media .now) (record { starts = c .before .before .before .span-of .ensures .0; ends = c .before .before .before .span-of .ensures .1 }) (p .1 .0 .within) }, (p .1 .1, (search needs, search needs))))
 
 is-append-requires : tie.Need-is-append-requires
 is-append-requires c κs = search needs
@@ -41,8 +41,8 @@ returns : tie.Need-returns
 returns c =
     let a = c .before .before .before .before .before .before .before .before .before .before .before .args in
     λ r s tables q.
-    delivered (a .shape) r (a .media .now) tables s (a .i) (a .op) (a .src .now) (a .fate) (a .given .now) (c .before .before .before .before .before .before .before .before .before .before .before .pre .0 .within) _ _
-    (record { starts = c .before .before .before .before .before .before .before .before .span-of .ensures .0; ends = c .before .before .before .before .before .before .before .before .span-of .ensures .1 }) (c .before .before .before .before .answer .result) (c .before .before .before .before .answer .last .0) (c .before .before .before .before .answer .kept .0) (a .t2) q
+    delivered (a .shape) r (a .media .now) tables s (a .i) (a .op) (a .src .now) (a .fate) (a .given .now) (c .before .before .before .before .before .before .before .before .before .before .before .pre .1 .0 .within) _ _
+    (record { starts = c .before .before .before .before .before .before .before .before .span-of .ensures .0; ends = c .before .before .before .before .before .before .before .before .span-of .ensures .1 }) (c .before .before .before .before .answer .result) (c .before .before .before .before .answer .last .1 .0) (c .before .before .before .before .answer .kept .1 .0) (a .t3) q
     (c .before .before .before .before .answer .ensures) (rw (c .before .is-append .ensures) at (c .hear .ensures))
 
 pub deliver-spec : {M : Type 1} → statement M

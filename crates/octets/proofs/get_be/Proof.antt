@@ -1,65 +1,79 @@
--- `octets::get_be`. The invariant: v and the bytes from i on behind it give the number, and v has at most i bytes, so it fits 64 bits.
-use mathlib.Core.Path.{_≡_, refl, sym, _∙_}
-use Prim.Native.Nat.{_≤_, _<_, _-_, _^_}
-use lib.ListN.{length, drop, getD}
-use Rattle.octets.specs.Octets.{beFrom, beOf}
-use Rattle.octets.proofs.Lists.{be-next, be-end, be-fits, be-room}
+-- `octets::get_be`: eight bytes as two fours (`be-halves`), else byte by byte.
+use mathlib.Core.Path.{ap₂, _∙_}
+use Prim.Native.Nat.{ℕ, _+_, _*_, _^_, _<_}
+use Rattle.octets.proofs.Laws.{length-part}
+use Rattle.octets.proofs.Numbers.{be-halves}
 use native.Mathlib.Omega.{arith}
 use borrow.Author.Needs.{needs}
 use Rattle.octets.proofs.get_be.Statement.{statement}
 use Rattle.octets.proofs.get_be.Tie as tie
 
-abbrev Inv-loop : tie.InvT-loop
-Inv-loop s v₀ i₀ v i = (i ≤ length s) × (v < 256 ^ i) × (beFrom 0 s ≡ beFrom v (drop i s))
+sub-byte-by-byte : tie.Need-sub-byte-by-byte
+sub-byte-by-byte c = search needs
 
-abbrev μ-loop : tie.MeasureT-loop
-μ-loop s v₀ i₀ v i = length s - i
+part-byte-by-byte-start : tie.Need-part-byte-by-byte-start
+part-byte-by-byte-start c = search needs
 
-loop-holds : tie.Need-loop-holds Inv-loop μ-loop
-loop-holds c = (search needs, search needs, refl)
+part-byte-by-byte-end : tie.Need-part-byte-by-byte-end
+part-byte-by-byte-end c = search needs
 
-mul-v : tie.Need-mul-v Inv-loop μ-loop
-mul-v c = omega (arith, be-room (c .before .loop .v) (c .before .loop .i) 7 (c .before .loop .inv .1) (omega arith))
+byte-by-byte-requires : tie.Need-byte-by-byte-requires
+byte-by-byte-requires c κs = search needs
 
-shared-slice-read-v : tie.Need-shared-slice-read-v Inv-loop μ-loop
-shared-slice-read-v c = search needs
+mul-result : tie.Need-mul-result
+mul-result c =
+    let s = c .before .before .before .before .args .s .now in
+    let u : c .byte-by-byte .result < 256 ^ 4 = rw (length-part 0 4 s (omega (arith, c .before .before .if1 .taken))) at (c .byte-by-byte .ensures .1) in
+    omega (arith, u)
 
-cast-v : tie.Need-cast-v Inv-loop μ-loop
-cast-v c = omega (arith, c .shared-slice-known .given (c .before .before .loop .i))
+sub-byte-by-byte-2 : tie.Need-sub-byte-by-byte-2
+sub-byte-by-byte-2 c = search needs
 
-add-v : tie.Need-add-v Inv-loop μ-loop
-add-v c = omega (arith, be-room (c .before .before .loop .v) (c .before .before .loop .i) 7 (c .before .before .loop .inv .1) (omega arith), c .shared-slice-known .given (c .before .before .loop .i))
+part-byte-by-byte-start-2 : tie.Need-part-byte-by-byte-start-2
+part-byte-by-byte-start-2 c = search needs
 
-add-i : tie.Need-add-i Inv-loop μ-loop
-add-i c = search needs
+part-byte-by-byte-end-2 : tie.Need-part-byte-by-byte-end-2
+part-byte-by-byte-end-2 c = search needs
 
-loop-less : tie.Need-loop-less Inv-loop μ-loop
-loop-less c = search needs
+byte-by-byte-requires-2 : tie.Need-byte-by-byte-requires-2
+byte-by-byte-requires-2 c κs = search needs
 
-loop-again : tie.Need-loop-again Inv-loop μ-loop
-loop-again c =
-    let s = c .before .before .before .args .s .now in
-    let l = c .before .before .loop in
-    (search needs, be-fits (l .v) (getD s (l .i) 0) (l .i) (l .inv .1) (c .shared-slice-known .given (l .i) .fits), l .inv .2 ∙ be-next (l .v) s (l .i) (search needs))
+add-result : tie.Need-add-result
+add-result c =
+    let s = c .before .before .before .before .before .before .args .s .now in
+    let e = c .before .before .before .before .if1 .taken in
+    let u : c .before .before .byte-by-byte .result < 256 ^ 4 = rw (length-part 0 4 s (omega (arith, e))) at (c .before .before .byte-by-byte .ensures .1) in
+    let v : c .byte-by-byte2 .result < 256 ^ 4 = rw (length-part 4 4 s (omega (arith, e))) at (c .byte-by-byte2 .ensures .1) in
+    omega (arith, u, v)
 
-returns : tie.Need-returns Inv-loop μ-loop
-unfolding beOf
+returns : tie.Need-returns
 returns c =
-    let l = c .before .loop in
-    (sym (l .inv .2 ∙ be-end _ _ (l .i) (c .loop-test .left)), be-room (l .v) (l .i) (length (c .before .before .args .s .now)) (l .inv .1) (search needs))
+    let s = c .before .before .before .before .before .before .args .s .now in
+    let e = c .before .before .before .before .if1 .taken in
+    let u : c .before .before .byte-by-byte .result < 256 ^ 4 = rw (length-part 0 4 s (omega (arith, e))) at (c .before .before .byte-by-byte .ensures .1) in
+    let v : c .byte-by-byte2 .result < 256 ^ 4 = rw (length-part 4 4 s (omega (arith, e))) at (c .byte-by-byte2 .ensures .1) in
+    (ap₂ (λ (h l : ℕ). h * 4294967296 + l) (c .before .before .byte-by-byte .ensures .0) (c .byte-by-byte2 .ensures .0) ∙ be-halves s e, rw e (omega (arith, u, v)))
+
+byte-by-byte-requires-3 : tie.Need-byte-by-byte-requires-3
+byte-by-byte-requires-3 c κs = search needs
+
+returns-2 : tie.Need-returns-2
+returns-2 c = search needs
 
 pub get-be-spec : {M : Type 1} → statement M
 get-be-spec =
     tie.close
     (tie.spec
-    Inv-loop
-    μ-loop
-    loop-holds
-    mul-v
-    shared-slice-read-v
-    cast-v
-    add-v
-    add-i
-    loop-less
-    loop-again
-    returns)
+    sub-byte-by-byte
+    part-byte-by-byte-start
+    part-byte-by-byte-end
+    byte-by-byte-requires
+    mul-result
+    sub-byte-by-byte-2
+    part-byte-by-byte-start-2
+    part-byte-by-byte-end-2
+    byte-by-byte-requires-2
+    add-result
+    returns
+    byte-by-byte-requires-3
+    returns-2)

@@ -12,9 +12,6 @@ enum-told-2 c = search needs
 enum-told-3 : tie.Need-enum-told-3
 enum-told-3 c = search needs
 
-tables-requires : tie.Need-tables-requires
-tables-requires c κs = search needs
-
 given-pass-requires : tie.Need-given-pass-requires
 given-pass-requires c κs = search needs
 
@@ -25,7 +22,7 @@ returns-2 : tie.Need-returns-2
 returns-2 c = search needs
 
 returns-3 : tie.Need-returns-3
-returns-3 c = rw (c .given-pass .ensures, c .before .before .before .before .enum-told3 .given .1)
+returns-3 c = rw (c .given-pass .ensures, c .before .before .enum-told3 .given .1)
 
 pub left-passes-spec : {M : Type 1} → statement M
 left-passes-spec =
@@ -34,7 +31,6 @@ left-passes-spec =
     enum-told
     enum-told-2
     enum-told-3
-    tables-requires
     given-pass-requires
     returns
     returns-2

@@ -36,10 +36,10 @@ returns : tie.Need-returns
 returns c =
     let a = c .before .before .before .before .before .before .before .before .args in
     let is = c .before .before .before .before .before .before .vote-among .ensures in
-    let u = c .before .before .before .is-undecided .ensures ∙ undecided-is (a .shape) (a .t2) (a .i) (a .f) (a .given .now) _ is in
+    let u = c .before .before .before .is-undecided .ensures ∙ undecided-is (a .shape) (a .t3) (a .i) (a .f) (a .given .now) _ is in
     if-done (rw (c .before .before .before .before .before .decided-mark .ensures) at (c .planned .ensures))
-    (trim-checked (a .shape) (a .t2) (a .i) (a .f) (a .given .now) _ is (c .before .before .before .before .check-message .ensures) (rw u at (c .before .before .also .ensures)) (rw (c .before .before .before .before .before .decided-mark .ensures) at (c .before .also2 .ensures)))
-    (trims (a .shape) (a .t2) (a .i) (a .f) (a .given .now) _ is)
+    (trim-checked (a .shape) (a .t3) (a .i) (a .f) (a .given .now) _ is (c .before .before .before .before .check-message .ensures) (rw u at (c .before .before .also .ensures)) (rw (c .before .before .before .before .before .decided-mark .ensures) at (c .before .also2 .ensures)))
+    (trims (a .shape) (a .t3) (a .i) (a .f) (a .given .now) _ is)
 
 pub plan-trim-spec : {M : Type 1} → statement M
 plan-trim-spec =

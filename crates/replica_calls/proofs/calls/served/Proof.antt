@@ -4,6 +4,9 @@ use borrow.Author.Needs.{needs}
 use Rattle.replica_calls.proofs.calls.served.Statement.{statement}
 use Rattle.replica_calls.proofs.calls.served.Tie as tie
 
+tables-requires : tie.Need-tables-requires
+tables-requires c κs = search needs
+
 plan-of-requires : tie.Need-plan-of-requires
 plan-of-requires c κs = search needs
 
@@ -18,14 +21,14 @@ enum-known-plan-2 c = search needs
 
 deliver-requires : tie.Need-deliver-requires
 deliver-requires c κs =
-    let a = c .before .before .before .before .before .before .before .before .args in
-    let p = c .before .before .before .before .before .before .before .before .pre in
-    let l = c .before .before .before .before .before .plan-of .ensures in
-    (p, fits-kind (a .kind) (a .shape) (a .v) (a .i) _ (a .fate) (a .given .now) p l (c .before .before .before .plan2 .given .1))
+    let a = c .before .before .before .before .before .before .before .before .before .before .before .args in
+    let p = c .before .before .before .before .before .before .before .before .before .before .before .pre in
+    let l = c .before .before .before .before .before .before .plan-of .ensures in
+    (c .before .before .before .before .before .before .before .before .before .tables .ensures, (p, fits-kind (a .kind) (a .shape) (a .v) (a .i) _ (a .fate) (a .given .now) p l (c .before .before .before .before .plan2 .given .1)))
 
 returns : tie.Need-returns
 returns c =
-    let a = c .before .before .before .before .before .before .before .args in
+    let a = c .before .before .before .before .before .before .before .before .before .args in
     λ r s tables q. plan-refuses (a .shape) r (a .media .now) tables s (a .i) (a .fate) (a .given .now) (a .v) q (a .kind) (c .before .before .before .before .plan-of .ensures) (c .before .before .plan .given .1) (c .unchanged-server .ensures)
 
 same-length : tie.Need-same-length
@@ -33,13 +36,14 @@ same-length c = search needs
 
 returns-2 : tie.Need-returns-2
 returns-2 c =
-    let a = c .before .before .before .before .before .before .before .before .before .before .before .args in
-    λ r s tables q. plan-does (a .shape) r (a .media .now) tables s (a .i) (a .fate) (a .given .now) (a .v) q (a .kind) (c .before .before .before .before .before .before .before .before .plan-of .ensures) (c .before .before .before .before .before .before .plan2 .given .1) (c .before .before .deliver .ensures r s tables q)
+    let a = c .before .before .before .before .before .before .before .before .before .before .before .before .before .before .args in
+    λ r s tables q. plan-does (a .shape) r (a .media .now) tables s (a .i) (a .fate) (a .given .now) (a .v) q (a .kind) (c .before .before .before .before .before .before .before .before .before .plan-of .ensures) (c .before .before .before .before .before .before .before .plan2 .given .1) (c .before .before .deliver .ensures r s tables q)
 
 pub served-spec : {M : Type 1} → statement M
 served-spec =
     tie.close
     (tie.spec
+    tables-requires
     plan-of-requires
     enum-known-plan
     unchanged-server-requires

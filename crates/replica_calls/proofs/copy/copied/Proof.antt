@@ -10,6 +10,9 @@ use borrow.Author.Needs.{needs}
 use Rattle.replica_calls.proofs.copy.copied.Statement.{statement}
 use Rattle.replica_calls.proofs.copy.copied.Tie as tie
 
+tables-requires : tie.Need-tables-requires
+tables-requires c κs = search needs
+
 mul-mark : tie.Need-mul-mark
 mul-mark c = search needs
 
@@ -33,25 +36,25 @@ add-place-of c = search needs
 
 place-of-requires : tie.Need-place-of-requires
 place-of-requires c κs =
-    let a = c .before .before .before .before .before .before .before .args in
-    let p = c .before .before .before .before .before .before .before .pre in
+    let a = c .before .before .before .before .before .before .before .before .before .args in
+    let p = c .before .before .before .before .before .before .before .before .before .pre in
     let e = holds-not (copyRows (a .shape) (a .t2) (a .media .now) (a .from) (a .to) (a .fate) (a .given .now)) (c .before .before .before .check-copy .ensures) (c .before .enum-told .given .1) 16 in
     let l = copy-room (markAt (a .t2) (a .to)) (markAt (a .t2) (a .from)) (a .shape .places) e (p .0 .mark) in
     (((omega (arith, p .0 .replica, p .0 .replicas)), (omega arith), (omega (arith, l)), p .0 .few), p .0 .within)
 
 deliver-requires : tie.Need-deliver-requires
 deliver-requires c κs =
-    let a = c .before .before .before .before .before .before .before .before .before .before .args in
-    let p = c .before .before .before .before .before .before .before .before .before .before .pre in
-    let e = holds-not (copyRows (a .shape) (a .t2) (a .media .now) (a .from) (a .to) (a .fate) (a .given .now)) (c .before .before .before .before .before .before .check-copy .ensures) (c .before .before .before .before .enum-told .given .1) 16 in
-    (p .1, (copy-room (markAt (a .t2) (a .to)) (markAt (a .t2) (a .from)) (a .shape .places) e (p .0 .mark), refl))
+    let a = c .before .before .before .before .before .before .before .before .before .before .before .before .before .args in
+    let p = c .before .before .before .before .before .before .before .before .before .before .before .before .before .pre in
+    let e = holds-not (copyRows (a .shape) (a .t2) (a .media .now) (a .from) (a .to) (a .fate) (a .given .now)) (c .before .before .before .before .before .before .before .check-copy .ensures) (c .before .before .before .before .before .enum-told .given .1) 16 in
+    (c .before .before .before .before .before .before .before .before .before .before .before .tables .ensures, (p .1, (copy-room (markAt (a .t2) (a .to)) (markAt (a .t2) (a .from)) (a .shape .places) e (p .0 .mark), refl)))
 
 same-length : tie.Need-same-length
 same-length c = search needs
 
 returns : tie.Need-returns
 returns c =
-    let a = c .before .before .before .before .before .before .before .before .args in
+    let a = c .before .before .before .before .before .before .before .before .before .before .args in
     λ r s tables q. copy-refuses (a .shape) r (a .media .now) tables s (a .from) (a .to) (a .fate) (a .given .now) (a .t2) q _ (c .before .before .before .before .check-copy .ensures) (c .before .before .k .given .1) (c .unchanged-server .ensures)
 
 same-length-2 : tie.Need-same-length-2
@@ -59,13 +62,14 @@ same-length-2 c = search needs
 
 returns-2 : tie.Need-returns-2
 returns-2 c =
-    let a = c .before .before .before .before .before .before .before .before .before .before .before .before .before .args in
-    λ r s tables q. copy-does (a .shape) r (a .media .now) tables s (a .from) (a .to) (a .fate) (a .given .now) (a .t2) q _ (c .before .before .before .before .before .before .before .before .before .check-copy .ensures) (c .before .before .before .before .before .before .before .enum-told .given .1) (c .before .before .before .before .before .place-of .ensures) (c .before .before .deliver .ensures r s tables q)
+    let a = c .before .before .before .before .before .before .before .before .before .before .before .before .before .before .before .before .args in
+    λ r s tables q. copy-does (a .shape) r (a .media .now) tables s (a .from) (a .to) (a .fate) (a .given .now) (a .t2) q _ (c .before .before .before .before .before .before .before .before .before .before .check-copy .ensures) (c .before .before .before .before .before .before .before .before .enum-told .given .1) (c .before .before .before .before .before .before .place-of .ensures) (c .before .before .deliver .ensures r s tables q)
 
 pub copied-spec : {M : Type 1} → statement M
 copied-spec =
     tie.close
     (tie.spec
+    tables-requires
     mul-mark
     element-copy-out-mark
     check-copy-requires

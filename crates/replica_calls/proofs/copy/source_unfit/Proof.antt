@@ -26,7 +26,7 @@ unfit-requires : tie.Need-unfit-requires
 unfit-requires c κs =
     let a = c .before .before .before .before .args in
     let p = c .before .before .before .before .pre in
-    record { few = p .few; size = lent-size (a .shape .places) (a .from) _ _ (a .media .now) (record { starts = c .before .span-of .ensures .0; ends = c .before .span-of .ensures .1 }) (p .within) }
+    (p .0, record { few = p .1 .few; size = lent-size (a .shape .places) (a .from) _ _ (a .media .now) (record { starts = c .before .span-of .ensures .0; ends = c .before .span-of .ensures .1 }) (p .1 .within) })
 
 returns : tie.Need-returns
 returns c =

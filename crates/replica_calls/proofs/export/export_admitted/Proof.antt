@@ -9,6 +9,9 @@ use borrow.Author.Needs.{needs}
 use Rattle.replica_calls.proofs.export.export_admitted.Statement.{statement}
 use Rattle.replica_calls.proofs.export.export_admitted.Tie as tie
 
+tables-requires : tie.Need-tables-requires
+tables-requires c κs = search needs
+
 mul-v : tie.Need-mul-v
 mul-v c = search needs
 
@@ -32,7 +35,7 @@ export-sent-requires c κs = search needs
 
 returns : tie.Need-returns
 returns c =
-    let a = c .before .before .before .before .before .before .before .before .before .args in
+    let a = c .before .before .before .before .before .before .before .before .before .before .before .args in
     let v = serverAt (a .t2) (a .s) in (
       λ tables.
           refused (a .t2) (a .media .now) tables _ (messageRows (a .shape) v (a .i) (a .fate) (a .given .now)) _ (c .before .before .before .before .check-message .ensures) (c .before .before .k .given .1) (c .declined .ensures),
@@ -47,10 +50,10 @@ same-length-2 c = search needs
 
 returns-2 : tie.Need-returns-2
 returns-2 c =
-    let a = c .before .before .before .before .before .before .before .before .before .before .before .before .before .before .args in
+    let a = c .before .before .before .before .before .before .before .before .before .before .before .before .before .before .before .before .before .args in
     let v = serverAt (a .t2) (a .s) in (
       λ tables.
-          goes-on (a .t2) (a .media .now) tables _ (messageRows (a .shape) v (a .i) (a .fate) (a .given .now)) _ (c .before .before .before .before .before .before .before .before .before .check-message .ensures) (c .before .before .before .before .before .before .before .enum-told .given .1)
+          goes-on (a .t2) (a .media .now) tables _ (messageRows (a .shape) v (a .i) (a .fate) (a .given .now)) _ (c .before .before .before .before .before .before .before .before .before .before .check-message .ensures) (c .before .before .before .before .before .before .before .before .enum-told .given .1)
           (c .before .before .before .before .export-sent .ensures .0 (a .given .now) tables),
       c .before .before .before .before .export-sent .ensures .1,
     )
@@ -59,6 +62,7 @@ pub export-admitted-spec : {M : Type 1} → statement M
 export-admitted-spec =
     tie.close
     (tie.spec
+    tables-requires
     mul-v
     element-copy-out-v
     check-message-requires

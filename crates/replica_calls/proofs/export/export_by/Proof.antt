@@ -20,7 +20,7 @@ returns c =
 other-sizes-requires : tie.Need-other-sizes-requires
 other-sizes-requires c κs =
     let p = c .before .before .before .before .before .pre in
-    (p .1 .0 .0, (p .1 .1 _ (c .enum-told .given .1), p .1 .0 .1))
+    (p .1 .1 .0 .0, (p .1 .1 .1 _ (c .enum-told .given .1), p .1 .1 .0 .1))
 
 declined-requires : tie.Need-declined-requires
 declined-requires c κs = search needs
@@ -31,16 +31,13 @@ returns-2 c =
     let files = filesOf (a .file .now) (a .index .now) in
     not-sized (a .records) (a .s) (a .i) _ _ files (c .before .before .before .enum-told .given .1) (sym (c .before .if1 .taken) ∙ c .before .before .other-sizes .ensures files refl refl) (c .declined .ensures)
 
-tables-requires : tie.Need-tables-requires
-tables-requires c κs = search needs
-
 write-pair-requires : tie.Need-write-pair-requires
 write-pair-requires c κs =
-    let a = c .before .before .before .before .before .before .before .before .before .before .before .args in
-    let p = c .before .before .before .before .before .before .before .before .before .before .before .pre in
+    let a = c .before .before .before .before .before .before .before .before .before .args in
+    let p = c .before .before .before .before .before .before .before .before .before .pre in
     let files = filesOf (a .file .now) (a .index .now) in
-    let l = exact (a .k) (a .m .now) files (sym (c .before .before .before .before .before .other-sizes .ensures files refl refl) ∙ c .before .before .before .before .if1 .left) in
-    (c .before .before .before .tables .ensures, (p .1 .0 .0, (p .1 .1 _ (c .before .before .before .before .before .before .enum-told .given .1), (p .1 .0 .1, (l .0, l .1)))))
+    let l = exact (a .k) (a .m .now) files (sym (c .before .before .before .other-sizes .ensures files refl refl) ∙ c .before .before .if1 .left) in
+    (p .0, (p .1 .1 .0 .0, (p .1 .1 .1 _ (c .before .before .before .before .enum-told .given .1), (p .1 .1 .0 .1, (l .0, l .1)))))
 
 read-by-requires-2 : tie.Need-read-by-requires-2
 read-by-requires-2 c κs = search needs
@@ -53,9 +50,9 @@ same-length-2 c = search needs
 
 returns-3 : tie.Need-returns-3
 returns-3 c =
-    let a = c .before .before .before .before .before .before .before .before .before .before .before .before .before .before .before .before .before .args in
+    let a = c .before .before .before .before .before .before .before .before .before .before .before .before .before .before .before .args in
     let files = filesOf (a .file .now) (a .index .now) in
-    exported (a .records) (a .s) (a .i) _ _ files (c .before .before .before .before .before .before .before .before .before .before .before .before .enum-told .given .1) (sym (c .before .before .before .before .before .before .before .before .before .before .if1 .left) ∙ c .before .before .before .before .before .before .before .before .before .before .before .other-sizes .ensures files refl refl) (c .read-by2 .ensures)
+    exported (a .records) (a .s) (a .i) _ _ files (c .before .before .before .before .before .before .before .before .before .before .enum-told .given .1) (sym (c .before .before .before .before .before .before .before .before .if1 .left) ∙ c .before .before .before .before .before .before .before .before .before .other-sizes .ensures files refl refl) (c .read-by2 .ensures)
     (ap₂ filesOf (c .before .before .before .before .before .write-pair .ensures .0) (c .before .before .before .before .before .write-pair .ensures .1))
 
 pub export-by-spec : {M : Type 1} → statement M
@@ -68,7 +65,6 @@ export-by-spec =
     other-sizes-requires
     declined-requires
     returns-2
-    tables-requires
     write-pair-requires
     read-by-requires-2
     same-length

@@ -59,16 +59,19 @@ export-by-requires : tie.Need-export-by-requires
 export-by-requires c κs =
     let a = c .before .before .before .before .before .before .before .before .before .before .before .before .args in
     let p = c .before .before .before .before .before .before .before .before .before .before .before .before .pre in
-    let v = serverAt (a .t2) (a .s) in
+    let v = serverAt (a .t3) (a .s) in
     let w : Spans (a .shape .places) (a .i) _ _ = record { starts = c .before .before .before .before .before .before .span-of .ensures .0; ends = c .before .before .before .before .before .before .span-of .ensures .1 } in
     let k = c .before .before .before .exported-mark .ensures in
-    let size = lent-size (a .shape .places) (a .i) _ _ (a .media .now) w (p .0 .within) in
-    let few = p .0 .few in
-    let mark = p .0 .mark in (
-      (p .1, omega (arith, p .0 .replica, p .0 .replicas)),
+    let size = lent-size (a .shape .places) (a .i) _ _ (a .media .now) w (p .1 .0 .within) in
+    let few = p .1 .0 .few in
+    let mark = p .1 .0 .mark in (
+      p .0,
       (
-        (omega (arith, k, size, mark), omega (arith, k, few, mark)),
-        λ n e. all-sized (a .shape .places) _ _ (omega (arith, k, heard-mark (a .shape .places) (v .session) (markAt v (a .i)) n (a .fate) _ (sym (c .before .before .before .before .read .ensures) ∙ e))),
+        (p .1 .1, omega (arith, p .1 .0 .replica, p .1 .0 .replicas)),
+        (
+          (omega (arith, k, size, mark), omega (arith, k, few, mark)),
+          λ n e. all-sized (a .shape .places) _ _ (omega (arith, k, heard-mark (a .shape .places) (v .session) (markAt v (a .i)) n (a .fate) _ (sym (c .before .before .before .before .read .ensures) ∙ e))),
+        ),
       ),
     )
 
@@ -81,12 +84,12 @@ same-length-2 c = search needs
 returns : tie.Need-returns
 returns c =
     let a = c .before .before .before .before .before .before .before .before .before .before .before .before .before .before .before .before .before .args in
-    let v = serverAt (a .t2) (a .s) in
+    let v = serverAt (a .t3) (a .s) in
     let w : Spans (a .shape .places) (a .i) _ _ = record { starts = c .before .before .before .before .before .before .before .before .before .before .before .span-of .ensures .0; ends = c .before .before .before .before .before .before .before .before .before .before .before .span-of .ensures .1 } in
     let places = places-are (a .shape) v (a .i) _ _ _ (a .media .now) w (c .before .before .before .before .before .before .before .before .exported-mark .ensures) in (
       λ given tables.
           rw (c .before .before .before .before .export-by .ensures .0, places)
-          (export-heard (a .shape) (a .t2) (a .media .now) tables (a .s) (a .i) (a .fate) given (a .stamp) (a .file .now) (a .index .now) _ _ w _ (c .before .before .before .before .before .before .before .before .before .read .ensures)),
+          (export-heard (a .shape) (a .t3) (a .media .now) tables (a .s) (a .i) (a .fate) given (a .stamp) (a .file .now) (a .index .now) _ _ w _ (c .before .before .before .before .before .before .before .before .before .read .ensures)),
       c .before .before .before .before .export-by .ensures .1
           ∙ ap (λ (ps : List (List ℕ)). ifOk (replyOf (c .before .before .before .before .export-by .result .answer)) (pairOf (a .stamp) ps) (filesOf (a .file .now) (a .index .now))) places,
     )

@@ -33,12 +33,12 @@ read-requires : tie.Need-read-requires
 read-requires c κs =
     let a = c .before .before .before .before .before .args in
     let p = c .before .before .before .before .before .pre in
-    record { few = p .0 .few; size = lent-size (a .shape .places) (a .i) _ _ (a .media .now) (record { starts = c .before .span-of .ensures .0; ends = c .before .span-of .ensures .1 }) (p .0 .within) }
+    (p .0, record { few = p .1 .0 .few; size = lent-size (a .shape .places) (a .i) _ _ (a .media .now) (record { starts = c .before .span-of .ensures .0; ends = c .before .span-of .ensures .1 }) (p .1 .0 .within) })
 
 place-of-requires : tie.Need-place-of-requires
 place-of-requires c κs =
     let p = c .before .before .before .before .before .before .pre in
-    ((omega (arith, p .0 .replica, p .0 .replicas), p .2, p .3, p .0 .few), p .0 .within)
+    ((omega (arith, p .1 .0 .replica, p .1 .0 .replicas), p .1 .2, p .1 .3, p .1 .0 .few), p .1 .0 .within)
 
 read-by-requires : tie.Need-read-by-requires
 read-by-requires c κs = search needs
@@ -48,7 +48,7 @@ returns c =
     let a = c .before .before .before .before .before .before .before .before .args in
     λ given tables.
     rw (c .read-by .ensures, c .before .place-of .ensures)
-    (read-heard (a .shape) (a .t2) (a .media .now) tables (a .s) (a .i) (a .id) (a .fate) given _ _ (record { starts = c .before .before .before .before .span-of .ensures .0; ends = c .before .before .before .before .span-of .ensures .1 }) _ (c .before .before .read .ensures))
+    (read-heard (a .shape) (a .t3) (a .media .now) tables (a .s) (a .i) (a .id) (a .fate) given _ _ (record { starts = c .before .before .before .before .span-of .ensures .0; ends = c .before .before .before .before .span-of .ensures .1 }) _ (c .before .before .read .ensures))
 
 pub read-sent-spec : {M : Type 1} → statement M
 read-sent-spec =

@@ -1,0 +1,3 @@
+pub mod groups;
+pub mod log;
+pub mod operation;

@@ -1,0 +1,99 @@
+// A medium's log: its mark, its places read and wiped.
+ghost use mathlib.Core.Path.{_≡_};
+ghost use Prim.Native.Nat.{_+_, _-_, _≤_, _<_, _^_};
+ghost use lib.ListN.{length};
+ghost use Rattle.crc32.specs.Tables.{tablesOf};
+ghost use Rattle.fate.specs.Fates.{leave};
+ghost use Rattle.fate.specs.Numbered.{effectOf, afterFrom};
+ghost use Rattle.storage.specs.Sizes.{placeSize, mediumSize};
+ghost use Rattle.storage.specs.Places.{wiped};
+ghost use Rattle.storage.specs.Log.{placeAt, markOf};
+ghost use Rattle.storage.specs.Operations.{placeWrite, wipes};
+use crate::groups;
+use crate::groups::GROUP;
+use crc32::Tables;
+use fate::Fate;
+use lanes::LANES;
+use storage::sizes::PLACE;
+use storage::sizes::Place;
+use storage::sizes::SLOTS;
+
+// The mark of a log whose first places are known to be valid: whole groups first, then what is left. The next group is reached by a sum,
+// not by a product.
+pub fn mark_from(t: &Tables, m: &[u8], places: usize, known: usize) -> usize
+    requires { ⌜ now t ≡ tablesOf ⌝ }
+    requires { ⌜ length (now m) ≡ mediumSize places ⌝ }
+    requires { ⌜ known ≤ markOf places (now m) ⌝ }
+    ensures { λ r. ⌜ r ≡ markOf places (now (m .entry)) ⌝ }
+{
+    let mut n = known;
+    let mut a = SLOTS + PLACE * known;
+    while LANES <= places - n {
+        let e = a + GROUP;
+        let k = groups::together(t, &m[a..e], n as u64);
+        if k < LANES {
+            return n + k;
+        }
+        n += LANES;
+        a = e;
+    }
+    n + groups::singly(t, &m[a..], n as u64, places - n)
+}
+
+// The highest ID of the log, 0 where it is empty.
+pub fn mark(t: &Tables, m: &[u8], places: usize) -> usize
+    requires { ⌜ now t ≡ tablesOf ⌝ }
+    requires { ⌜ length (now m) ≡ mediumSize places ⌝ }
+    ensures { λ r. ⌜ r ≡ markOf places (now (m .entry)) ⌝ }
+{
+    mark_from(t, m, places, 0)
+}
+
+// The bytes of place n.
+pub fn read_place(m: &[u8], n: u64) -> Place
+    requires { ⌜ (1 ≤ n) × (mediumSize n ≤ length (now m)) ⌝ }
+    ensures { λ r. ⌜ r ≡ placeAt n (now (m .entry)) ⌝ }
+{
+    let mut out = [0u8; PLACE];
+    let a = SLOTS + PLACE * (n as usize - 1);
+    let e = a + PLACE;
+    octets::copy(&mut out, &m[a..e]);
+    out
+}
+
+// Write k puts bytes in place n.
+pub fn set_place(m: &mut [u8], n: usize, src: &[u8], given: &[u8], f: Fate, k: u64)
+    requires { ⌜ (1 ≤ n) × (mediumSize n ≤ length (now m)) ⌝ }
+    requires { ⌜ length (now src) ≡ placeSize ⌝ }
+    requires { ⌜ length (now given) ≡ placeSize ⌝ }
+    ensures { λ _. ⌜ now (m .exit) ≡ leave (effectOf f k) (now (given .entry)) (placeWrite n (now (src .entry))) (now (m .entry)) ⌝ }
+{
+    let at = SLOTS + PLACE * (n - 1);
+    fate::store(m, at, src, given, f, k);
+}
+
+// Write k wipes place n.
+fn wipe(m: &mut [u8], n: usize, given: &[u8], f: Fate, k: u64)
+    requires { ⌜ (1 ≤ n) × (mediumSize n ≤ length (now m)) ⌝ }
+    requires { ⌜ length (now given) ≡ placeSize ⌝ }
+    ensures { λ _. ⌜ now (m .exit) ≡ leave (effectOf f k) (now (given .entry)) (placeWrite n wiped) (now (m .entry)) ⌝ }
+{
+    let zeros = [0u8; PLACE];
+    set_place(m, n, &zeros, given, f, k);
+}
+
+// The places above `to`, up to `from`, are wiped from the highest down: writes from k on.
+pub fn truncate(m: &mut [u8], from: usize, to: usize, given: &[u8], f: Fate, k: u64)
+    requires { ⌜ mediumSize from ≤ length (now m) ⌝ }
+    requires { ⌜ length (now given) ≡ placeSize ⌝ }
+    requires { ⌜ k + from < 2 ^ 64 ⌝ }
+    ensures { λ _. ⌜ now (m .exit) ≡ afterFrom k f (now (given .entry)) (wipes to (from - to)) (now (m .entry)) ⌝ }
+{
+    let mut n = from;
+    let mut j = k;
+    while to < n {
+        wipe(m, n, given, f, j);
+        n -= 1;
+        j += 1;
+    }
+}

@@ -3,6 +3,7 @@
 //! that its result does not depend on, or undoes what the turn before did, so that no turn can be
 //! saved.
 
+pub mod scan;
 mod stage;
 
 use crate::cluster::{Answer, Call, Cluster, Entry};
@@ -10,6 +11,7 @@ use crate::crc::crc32;
 use crate::fate::Fate;
 use crate::medium;
 use crate::segment::{self, Pair, Stamp};
+use scan::mark_by_products;
 use stage::{filled, issue, make, message, prepare_all};
 
 /// The bytes whose CRC is taken.
@@ -24,7 +26,8 @@ fn answer(line: &str) -> Option<String> {
     let (name, count) = line.split_once('\t')?;
     let job = match name {
         "crc" => crc,
-        "marks" => marks,
+        "marks" => |count| marks(count, medium::mark),
+        "products" => |count| marks(count, mark_by_products),
         "send" => send,
         "prepare" => prepare,
         "open" => open,
@@ -45,12 +48,13 @@ fn crc(count: u64) -> u64 {
     })
 }
 
-/// The marks of seven full media.
-fn marks(count: u64) -> u64 {
+/// The marks of seven full media, each found by this scan, which is a function of its own: built into
+/// the job, one scan could be compiled better than another.
+fn marks(count: u64, mark: fn(&[u8]) -> u64) -> u64 {
     let mut cluster = filled(1000);
     total(count, |left| {
         cluster.media[0] = left as u8;
-        (0..7).map(|replica| medium::mark(cluster.medium(replica))).sum()
+        (0..7).map(|replica| mark(cluster.medium(replica))).sum()
     })
 }
 

@@ -117,7 +117,9 @@ impl<'a> Record<'a> {
         bytes
     }
 
-    /// The record in `bytes`, if they are a valid place of this number.
+    /// The record in `bytes`, if they are a valid place of this number. It is inlined, and so are
+    /// `is_place` and `is_sealed`, so that every scan of places is compiled alike.
+    #[inline(always)]
     pub fn decode(number: u64, bytes: &'a [u8]) -> Option<Record<'a>> {
         let length = be32(bytes, LENGTH_AT) as usize;
         let valid = be64(bytes, ID_AT) == number
@@ -142,6 +144,7 @@ impl<'a> Record<'a> {
     }
 }
 
+#[inline(always)]
 pub fn is_place(number: u64, bytes: &[u8]) -> bool {
     Record::decode(number, bytes).is_some()
 }
@@ -198,6 +201,7 @@ pub fn seal(bytes: &mut [u8]) {
     put(check, 0, &crc32(checked).to_be_bytes());
 }
 
+#[inline(always)]
 fn is_sealed(bytes: &[u8]) -> bool {
     let (checked, check) = bytes.split_at(bytes.len() - CHECK_BYTES);
     be32(check, 0) == crc32(checked)

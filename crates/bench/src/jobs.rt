@@ -1,8 +1,8 @@
-// The jobs by their numbers: 0 the CRC of 64 KB, 1 the marks of seven full media, 2 one send of record 1,000 to a replica that holds
-// 999, 3 one prepare that cuts a full log of 1,000 to 500, 4 one open over seven replicas that all hold 1,000, 5 an export of 1,000
-// places, 6 an import of that pair into a wiped medium. Each sets a cluster
-// up, and then makes its turn as often as asked. A turn changes a byte that its result does not depend on, or undoes what the turn
-// before did, which counts, so that none can be saved.
+// The jobs by their numbers: 0 the CRC of 64 KB, 1 the marks of seven full media, 2 the same by a scan with a product in its loop, 3 one
+// send of record 1,000 to a replica that holds 999, 4 one prepare that cuts a full log of 1,000 to 500, 5 one open over seven replicas
+// that all hold 1,000, 6 an export of 1,000 places, 7 an import of that pair into a wiped medium. Each sets a cluster up, and then makes
+// its turn as often as asked. A turn changes a byte that its result does not depend on, or undoes what the turn before did, which counts,
+// so that none can be saved.
 use crate::segments;
 use crate::stage;
 use crate::turns;
@@ -39,7 +39,7 @@ fn closed(r: Records, m: &mut [u8], tables: &mut [u64]) -> Records {
 // How many records a job's cluster stores first.
 fn records(job: u64) -> u64 {
     match job {
-        2 => 999,
+        3 => 999,
         _ => 1000,
     }
 }
@@ -47,16 +47,16 @@ fn records(job: u64) -> u64 {
 // The records that each turn of a job's call starts from.
 fn ready(job: u64, r: Records, m: &mut [u8], tables: &mut [u64]) -> Records {
     match job {
-        2 => stage::issued(r, m, tables),
-        3 => closed(r, m, tables),
+        3 => stage::issued(r, m, tables),
+        4 => closed(r, m, tables),
         _ => stage::prepared(r, m, tables, 1),
     }
 }
 
 fn call(job: u64) -> Call {
     match job {
-        2 => Call::Send(0, 0, Fate::Answered),
-        3 => Call::Prepare(1, 0, Fate::Answered),
+        3 => Call::Send(0, 0, Fate::Answered),
+        4 => Call::Prepare(1, 0, Fate::Answered),
         _ => Call::Open(1, Fate::Answered),
     }
 }
@@ -95,10 +95,10 @@ fn set_up(job: u64, m: &mut [u8], tables: &mut [u64]) {
 
 // What a job done so often comes to.
 pub fn total(job: u64, m: &mut [u8], tables: &mut [u64], count: u64) -> u64 {
-    if 4 < job {
+    if 5 < job {
         return segments::total(job, m, tables, count);
     }
-    if 1 < job {
+    if 2 < job {
         return calls(job, m, tables, count);
     }
     set_up(job, m, tables);

@@ -7,6 +7,7 @@ use cluster::Request;
 use cluster::Shape;
 use fate::Fate;
 use segment::header::Stamp;
+use storage::sizes::DATA_LIMIT;
 
 const REPLICAS: u64 = 7;
 
@@ -36,17 +37,26 @@ pub fn begun(m: &mut [u8], tables: &mut [u64]) -> Records {
     fresh::start(&t, shape, m, tables)
 }
 
-// One call; a request has 28 bytes of data and no lock. The key of an export's headers is all zeros.
-pub fn make_with(
+// The data of a record that so many were issued before: all differ, so that no scan gains by zeros.
+fn data_behind(issued: u64) -> [u8; DATA_LIMIT] {
+    let mut out = [0u8; DATA_LIMIT];
+    for i in 0..DATA_LIMIT {
+        out[i] = ((issued % 256 + i as u64) % 256) as u8;
+    }
+    out
+}
+
+// One call, with a request's data, and without locks. The key of an export's headers is all zeros.
+fn apply(
     r: Records,
     m: &mut [u8],
     tables: &mut [u64],
     call: Call,
+    bytes: &[u8],
     time: u64,
     file: &mut [u8],
     index: &mut [u8],
 ) -> Outcome {
-    let data = [0u8; 28];
     let none = [0u64; 1];
     let given = [0u8; 64];
     let shape = Shape {
@@ -64,13 +74,27 @@ pub fn make_with(
         m,
         tables,
         call,
-        &data,
+        bytes,
         &none[0..0],
         &given,
         stamp,
         file,
         index,
     )
+}
+
+// A call that no request goes with.
+pub fn make_with(
+    r: Records,
+    m: &mut [u8],
+    tables: &mut [u64],
+    call: Call,
+    time: u64,
+    file: &mut [u8],
+    index: &mut [u8],
+) -> Outcome {
+    let none = [0u8; 1];
+    apply(r, m, tables, call, &none[0..0], time, file, index)
 }
 
 // The same without files.
@@ -118,6 +142,7 @@ pub fn prepared(r: Records, m: &mut [u8], tables: &mut [u64], server: u64) -> Re
     to_all(taken, m, tables, server, false)
 }
 
+// Server 0 issues a record.
 pub fn issued(r: Records, m: &mut [u8], tables: &mut [u64]) -> Records {
     let q = Request {
         mark: 0,
@@ -127,7 +152,20 @@ pub fn issued(r: Records, m: &mut [u8], tables: &mut [u64]) -> Records {
         sequence: 3,
         header: 4,
     };
-    after(r, m, tables, Call::Issue(0, q))
+    let bytes = data_behind(r.servers[0].issued);
+    let mut file = [0u8; 1];
+    let mut index = [0u8; 1];
+    let o = apply(
+        r,
+        m,
+        tables,
+        Call::Issue(0, q),
+        &bytes,
+        0,
+        &mut file[0..0],
+        &mut index[0..0],
+    );
+    o.records
 }
 
 // Server 0 issues n records, one after another, and sends each to every replica.

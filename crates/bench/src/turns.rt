@@ -2,12 +2,15 @@
 ghost use mathlib.Core.Path.{_≡_};
 ghost use lib.ListN.{length};
 ghost use Rattle.crc32.specs.Tables.{tablesOf};
+ghost use Rattle.storage.specs.Sizes.{mediumSize};
+ghost use Rattle.storage.specs.Log.{markOf};
 ghost use Rattle.bench.specs.Sizes.{mediaLength};
+use crate::products;
 use crate::stage::MEDIA;
 use crate::stage::MEDIUM;
 use crc32::Tables;
+use medium::log;
 use std::num::wrapping_add_u64;
-use storage::medium;
 use storage::sizes::SLOTS;
 
 // The bytes whose CRC is taken.
@@ -26,7 +29,19 @@ fn crc(t: &Tables, m: &[u8]) -> u64
     crc32::crc(t, &m[0..CRC_BYTES]) as u64
 }
 
-fn seven_marks(t: &Tables, m: &[u8]) -> u64
+// A mark, by a sum or by a product.
+fn mark(t: &Tables, m: &[u8], product: bool) -> u64
+    requires { ⌜ now t ≡ tablesOf ⌝ }
+    requires { ⌜ length (now m) ≡ mediumSize 1000 ⌝ }
+    ensures { λ r. ⌜ r ≡ markOf 1000 (now (m .entry)) ⌝ }
+{
+    if product {
+        return products::mark(t, m, 1000) as u64;
+    }
+    log::mark(t, m, 1000) as u64
+}
+
+fn seven_marks(t: &Tables, m: &[u8], product: bool) -> u64
     requires { ⌜ now t ≡ tablesOf ⌝ }
     requires { ⌜ length (now m) ≡ mediaLength ⌝ }
 {
@@ -35,20 +50,20 @@ fn seven_marks(t: &Tables, m: &[u8]) -> u64
     let mut left: usize = 7;
     while 0 < left {
         let e = at + MEDIUM;
-        sum = wrapping_add_u64(sum, medium::mark(t, &m[at..e], 1000) as u64);
+        sum = wrapping_add_u64(sum, mark(t, &m[at..e], product));
         at = e;
         left -= 1;
     }
     sum
 }
 
-fn marks(t: &Tables, m: &[u8]) -> u64
+fn marks(t: &Tables, m: &[u8], product: bool) -> u64
     requires { ⌜ now t ≡ tablesOf ⌝ }
 {
     if m.len() != MEDIA {
         return 0;
     }
-    seven_marks(t, m)
+    seven_marks(t, m, product)
 }
 
 // The byte that differs from turn to turn.
@@ -66,7 +81,7 @@ pub fn read(t: &Tables, job: u64, m: &mut [u8], turn: u64) -> u64
     if job == 0 {
         return crc(t, m);
     }
-    marks(t, m)
+    marks(t, m, job == 2)
 }
 
 // The last place of the first medium is wiped.
@@ -103,8 +118,8 @@ fn put_back(full: &[u8], m: &mut [u8]) {
 // Undoes what the turn before did: a send's record, or a prepare's cut. An open is done again as it is.
 pub fn undo(job: u64, full: &[u8], m: &mut [u8]) {
     match job {
-        2 => wipe_last(m),
-        3 => put_back(full, m),
+        3 => wipe_last(m),
+        4 => put_back(full, m),
         _ => {}
     }
 }

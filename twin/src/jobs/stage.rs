@@ -31,14 +31,16 @@ pub fn prepare_all(cluster: &mut Cluster, server: u64) {
     }
 }
 
-/// Server 0 issues the next record: 28 bytes of data and no lock.
+/// Server 0 issues the next record: 28 bytes of data and no lock. Data differ from record to record,
+/// so that no scan profits from zeros.
 pub fn issue(cluster: &mut Cluster) {
+    let first = cluster.records.servers[0].issued as u8;
     let request = Request {
         client: 1,
         partition: 2,
         sequence: 3,
         header: 4,
-        data: vec![0; 28],
+        data: (0..28).map(|byte| first.wrapping_add(byte)).collect(),
         ..Request::default()
     };
     make(cluster, Call::Issue { server: 0, request });

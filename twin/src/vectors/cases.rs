@@ -28,6 +28,7 @@ pub fn input() -> String {
     for line in segments::lines(&mut cases.random) {
         cases.line(line);
     }
+    cases.log_ends();
     cases.lines
 }
 
@@ -216,6 +217,19 @@ impl Cases {
         ];
         for log in logs {
             self.medium(slots, log);
+        }
+    }
+
+    /// Logs that end at every place of media of several sizes, in every way, with valid places behind
+    /// the end: a scan that takes several places at once may miss one of them.
+    fn log_ends(&mut self) {
+        let slots = [slot(1, 0, 0), slot(0, 0, 0)];
+        for places in [5, 6, 7, 9] {
+            for mark in 0..=places {
+                let end = [".", "x", "w", "r"][(places + mark) % 4];
+                let behind = "v".repeat(places - mark);
+                self.medium(slots, &("v".repeat(mark) + &behind.replacen('v', end, 1)));
+            }
         }
     }
 

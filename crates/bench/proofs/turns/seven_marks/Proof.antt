@@ -9,10 +9,10 @@ use Rattle.bench.proofs.turns.seven_marks.Statement.{statement}
 use Rattle.bench.proofs.turns.seven_marks.Tie as tie
 
 abbrev Inv-loop : tie.InvT-loop
-Inv-loop t m sum₀ at₀ left₀ sum at left = at + left * mediumSize 1000 ≡ mediaLength
+Inv-loop t m product sum₀ at₀ left₀ sum at left = at + left * mediumSize 1000 ≡ mediaLength
 
 abbrev μ-loop : tie.MeasureT-loop
-μ-loop t m sum₀ at₀ left₀ sum at left = left
+μ-loop t m product sum₀ at₀ left₀ sum at left = left
 
 loop-holds : tie.Need-loop-holds Inv-loop μ-loop
 loop-holds c = search needs

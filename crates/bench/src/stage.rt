@@ -37,7 +37,7 @@ pub fn begun(m: &mut [u8], tables: &mut [u64]) -> Records {
     fresh::start(&t, shape, m, tables)
 }
 
-// The data of a record that so many were issued before: all differ, so that no scan gains by zeros.
+// The data of a record that so many were issued before: they differ from one to the next, so that no scan gains by zeros.
 fn data_behind(issued: u64) -> [u8; DATA_LIMIT] {
     let mut out = [0u8; DATA_LIMIT];
     for i in 0..DATA_LIMIT {

@@ -1,5 +1,5 @@
 // Places one behind the other: how many of them are valid, up to the first that is not. Each place is reached from the one before it by a
-// sum, and its check is made once.
+// sum, and no check is made twice.
 ghost use mathlib.Core.Path.{_≡_};
 ghost use mathlib.Core.Bool.{true};
 ghost use Prim.Native.Nat.{_+_, _*_, _≤_, _<_, _^_};
@@ -90,8 +90,8 @@ fn agreeing(s: &[u8], n: u64, r: Registers) -> usize
     j
 }
 
-// The valid ones of a group, of which the first follows place n: if all else fits, the checks are made side by side. The lanes start
-// behind the IDs, which are known by then.
+// The valid ones of a group, of which the first follows place n: if all else fits, the checks are made side by side; if not, one place at
+// a time. The lanes start behind the IDs, which are known by then.
 pub fn together(t: &Tables, s: &[u8], n: u64) -> usize
     requires { ⌜ now t ≡ tablesOf ⌝ }
     requires { ⌜ length (now s) ≡ placeSize * lanes ⌝ }

@@ -51,7 +51,7 @@ fn byte_by_byte(s: &[u8]) -> u64
     v
 }
 
-// The number that at most eight bytes stand for. Eight are read as two fours: of so many the compiler makes one load.
+// The number that at most eight bytes stand for. Eight are read as two fours: then the compiler makes one load of them, and else eight.
 pub fn get_be(s: &[u8]) -> u64
     requires { ⌜ length (now s) ≤ 8 ⌝ }
     ensures { λ r. ⌜ (r ≡ beOf (now (s .entry))) × (r < 256 ^ length (now (s .entry))) ⌝ }

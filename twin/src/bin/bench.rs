@@ -1,8 +1,8 @@
 //! Times the proved programs beside others: the jobs of crates/bench and the script program on its
-//! stored input beside this implementation's, and the mark scan beside both and C programs that take
-//! a library's CRC-32. All are release builds, run as processes on the same input one after the
-//! other; a job's time is that of many turns less that of none, so that start and set-up fall out.
-//! The least of several rounds counts.
+//! stored input beside this implementation's, and the mark scan by a sum beside the one by a product,
+//! this implementation's two, and C programs with a library's CRC-32. All are release builds, run as
+//! processes on the same input one after the other; a job's time is that of many turns less that of
+//! none, so that start and set-up fall out. The least of several rounds counts.
 
 use std::env;
 use std::fs::{self, File};
@@ -16,7 +16,7 @@ use twin::script::LINE_LIMIT;
 /// How often each time is taken.
 const ROUNDS: usize = 5;
 
-/// A job, what it does, and how many turns take about a second, several times what its set-up takes.
+/// A job, what it does, and how many turns: some tenths of a second, several times its set-up.
 type Job = (&'static str, &'static str, u64);
 
 const JOBS: [Job; 7] = [
@@ -37,7 +37,7 @@ const CRC: Job = ("crc", "CRC-32 of 64 KB", 30_000);
 /// places in the proved program, one for each place in this implementation.
 const PRODUCTS: &str = "products";
 
-/// The places that a turn of both scans reads.
+/// The places that a turn of each scan reads.
 const PLACES_READ: f64 = 7_000.0;
 
 /// How often the script program's stored input is repeated.

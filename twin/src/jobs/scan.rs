@@ -1,5 +1,5 @@
 //! The mark by a scan that finds each place by a product, to be timed beside `medium::mark`, which
-//! goes on from place to place. Nothing else uses it.
+//! goes on from place to place. Only the benchmark and its test use it.
 
 use std::hint::black_box;
 

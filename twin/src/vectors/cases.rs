@@ -220,8 +220,8 @@ impl Cases {
         }
     }
 
-    /// Logs that end at every place of media of several sizes, in every way, with valid places behind
-    /// the end: a scan that takes several places at once may miss one of them.
+    /// Logs that end at every place of media of several sizes, in four ways by turns, with valid places
+    /// behind the end: a scan that takes several places at once may miss one of them.
     fn log_ends(&mut self) {
         let slots = [slot(1, 0, 0), slot(0, 0, 0)];
         for places in [5, 6, 7, 9] {

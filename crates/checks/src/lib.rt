@@ -1,4 +1,4 @@
-// What every call is checked for before anything is looked at (refusals 1 to 5), the tests by which a list of refusals is built up, and
+// What every call is checked for before anything is looked at (refusals 1 to 5; open and issue test 5 themselves), the tests by which a list of refusals is built up, and
 // what a call gives when it is declined, silent or done.
 pub mod vote;
 
@@ -197,7 +197,8 @@ fn phase_at(records: Records, server: u64) -> Phase
     }
 }
 
-fn allowed(p: Phase, phases: Phases) -> bool
+// A call for these phases may be made in this one.
+pub fn allowed(p: Phase, phases: Phases) -> bool
     ensures { λ b. ⌜ b ≡ allows p phases ⌝ }
 {
     match p {

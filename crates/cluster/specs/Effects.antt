@@ -28,7 +28,7 @@ use Rattle.cluster.specs.declared.Register.{Register}
 use Rattle.cluster.specs.declared.Phase.the-variants.{Opening, Open}
 use Rattle.cluster.specs.declared.Server.{Server}
 use Rattle.cluster.specs.declared.Request.{Request}
-use Rattle.cluster.specs.State.{State, idleServer, serverAt, putServer, putRegister, entryAt, markAt, memberAt, recordOf, tableSize, tableAt, withTable}
+use Rattle.cluster.specs.State.{State, idleServer, serverAt, putServer, putRegister, entryAt, markAt, memberAt, heldAfter, recordOf, tableSize, tableAt, withTable}
 use Rattle.cluster.specs.Replies.{Reply, ok, silent}
 use Rattle.cluster.specs.Refusals.{answered, isOpen, cleanAt, refusesPrepare, refusesAt, exportedPlaces, sessionAtTop, sessionDiffers}
 
@@ -192,7 +192,8 @@ abbrev pub copyEffect : ℕ → ℕ → State → ℕ → ℕ → ℕ → Fate �
 copyEffect r N x s a b f given =
     appendEffect r N x s b (placeAt (markAt (serverAt (x .records) s) b + 1) (mediumAt N a (x .media))) f given
 
--- "send i (open): writes the issued record, held by the server as 64 bytes, in place (i's mark + 1) of member i."
+-- document 02, No. 5: "send delivers the one that follows the replica's mark, if it is still held", in place of document 01's "send i (open): writes the
+-- issued record, held by the server as 64 bytes, in place (i's mark + 1) of member i." What is held is written as it is.
 abbrev pub sendEffect : ℕ → ℕ → State → ℕ → ℕ → Fate → List ℕ → Result
 sendEffect r N x s i f given =
     let v = serverAt (x .records) s in
@@ -261,7 +262,7 @@ openedRegister r g v d =
     }
 
 -- "The mark is the session's starting mark, .. issued = acknowledged = it, clean replicas are its members, and all other recorded marks
--- become 0."
+-- become 0." The bytes of the eight records stay; none is held, since nothing is issued above the starting mark.
 unfoldable pub openedServer : ℕ → Server → ℕ → Server
 openedServer r v d =
     record {
@@ -315,7 +316,7 @@ issuedServer v q content =
       start = v .start;
       issued = v .issued + 1;
       acked = v .acked;
-      held = recordBytes (issuedFields (v .issued + 1) q) content;
+      held = heldAfter (v .held) (recordBytes (issuedFields (v .issued + 1) q) content);
     }
 
 unfoldable pub issueEffect : State → ℕ → Request → List ℕ → List ℕ → Result

@@ -37,7 +37,7 @@ use Rattle.cluster.specs.declared.Records.{Records}
 use Rattle.cluster.specs.declared.Request.{Request}
 use Rattle.cluster.specs.declared.Call.{Call}
 use Rattle.cluster.specs.declared.Call.the-variants as call
-use Rattle.cluster.specs.State.{State, tableSize, serverAt, entryAt, markAt, activeAt, votesAt, holds, tableAt}
+use Rattle.cluster.specs.State.{State, tableSize, serverAt, entryAt, markAt, activeAt, votesAt, window, holds, tableAt}
 
 -- a call with what lies beside it: issue's data and locks, the bytes given for a torn write, and for an export the time and key that are handed in and the
 -- two files that are lent
@@ -182,9 +182,10 @@ lockLimit = 4
 abbrev pub tooMuch : ℕ → ℕ → Bool
 tooMuch size locks = ltb dataLimit size || ltb lockLimit locks
 
--- 13 "The issued record isn't acknowledged yet (issue)"
+-- 13, document 02, No. 5: "Refusal 13 now means eight or more unacknowledged", in place of document 01's "The issued record isn't acknowledged yet
+-- (issue)". They are counted from the acknowledged mark; one above the issued mark, which can be handed in, leaves none unacknowledged.
 abbrev pub unacknowledged : Server → Bool
-unacknowledged v = ltb (v .acked) (v .issued)
+unacknowledged v = leb (v .acked + window) (v .issued)
 
 -- 14 "The log is full: issued = N"
 abbrev pub full : ℕ → Server → Bool
@@ -209,7 +210,8 @@ abbrev pub lockRow : LockTest → Row
 lockRow t = record { number = 15; holds = isHeld t; values = heldBy t }
 
 -- 16 "There is nothing to do: send and i's mark isn't issued − 1; copy and b's mark isn't below a's; trim and i isn't above the mark; read
--- and ID is 0, above i's mark or above acknowledged"
+-- and ID is 0, above i's mark or above acknowledged"; in place of send's part, document 02, No. 5: "Refusal 16 for send now means that no held
+-- record follows the replica's mark."
 abbrev pub nothingToSend : Server → ℕ → Bool
 nothingToSend v i = not (holds v (markAt v i + 1))
 

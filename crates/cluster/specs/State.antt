@@ -1,10 +1,10 @@
--- The state of a cluster as the calls get it, and the parts of it that they name. Document 01, "Words", "Fates", "Register".
+-- The state of a cluster as the calls get it, and the parts of it that they name. Document 01, "Words", "Fates", "Register"; document 02, No. 5.
 -- Assumes nothing.
-use Prim.Native.Nat.{ℕ, zero, suc, _*_}
+use Prim.Native.Nat.{ℕ, zero, suc, _+_, _-_, _*_}
 use mathlib.Core.List.{List, [], _++_}
 use mathlib.Core.Bool.{Bool, false, not, _&&_}
-use lib.ListN.{getD, set, replicate}
-use lib.Dec.{eqb}
+use lib.ListN.{getD, set, replicate, drop}
+use lib.Dec.{ltb, leb}
 use Rattle.octets.specs.Octets.{part, writeAt}
 use Rattle.storage.specs.Sizes.{placeSize}
 use Rattle.storage.specs.Fresh.{freshMedium}
@@ -21,6 +21,33 @@ pub record State : Type 0 where
   pub records : Records
   pub media : List ℕ
   pub tables : List ℕ
+
+-- ---- the records that a server holds
+
+-- document 02, No. 5: "A server record holds the last eight records that its session issued, in order", in place of document 01's "the issued
+-- record, held by the server as 64 bytes"
+abbrev pub window : ℕ
+window = 8
+
+abbrev pub heldSize : ℕ
+heldSize = window * placeSize
+
+-- the one at index j, oldest first
+abbrev pub heldAt : ℕ → List ℕ → List ℕ
+heldAt j held = part (j * placeSize) placeSize held
+
+-- "Held are the IDs above the starting mark and above issued − 8, up to issued."
+abbrev pub heldIn : ℕ → ℕ → ℕ → Bool
+heldIn start issued n = ltb start n && leb n issued && ltb issued (n + window)
+
+-- where the record of ID n lies: issued − n before the newest. (Of an ID that is not held no call writes a record; above issued this is the newest's index,
+-- too far below it the oldest's.)
+abbrev pub indexOf : ℕ → ℕ → ℕ
+indexOf issued n = window - 1 - (issued - n)
+
+-- one more: the oldest gives way, and the newest is always last
+abbrev pub heldAfter : List ℕ → List ℕ → List ℕ
+heldAfter held bytes = drop placeSize held ++ bytes
 
 -- ---- servers
 
@@ -42,7 +69,7 @@ idleServer =
       start = 0;
       issued = 0;
       acked = 0;
-      held = replicate placeSize 0;
+      held = replicate heldSize 0;
     }
 
 -- what an array's element past its end stands for in the logic (no call gets there)
@@ -90,12 +117,12 @@ activeAt v i = getD (v .known) i false && not (getD (v .dropped) i false)
 abbrev pub votesAt : Server → ℕ → Bool
 votesAt v i = activeAt v i
 
--- a record that the server holds: "the issued record, held by the server as 64 bytes"
+-- server v holds the record of ID n
 abbrev pub holds : Server → ℕ → Bool
-holds v n = eqb n (v .issued)
+holds v n = heldIn (v .start) (v .issued) n
 
 abbrev pub recordOf : Server → ℕ → List ℕ
-recordOf v n = v .held
+recordOf v n = heldAt (indexOf (v .issued) n) (v .held)
 
 -- ---- lock tables: "Four servers .. each have a lock table of 1,024 64-bit marks, lent together"
 

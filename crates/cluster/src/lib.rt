@@ -1,10 +1,14 @@
 // What the calls of a cluster get and give: shape, register, server records, calls, answers. All are passed by value.
+pub mod held;
+
 ghost use mathlib.Core.Path.{_≡_};
 ghost use Prim.Native.Nat.{_<_};
 ghost use Rattle.cluster.specs.State.{idleServer, putServer};
 use fate::Fate;
+use storage::sizes::PLACE;
 
-// Limits, each named once: entries and marks of a record, servers, and the marks of a server's lock table and of all four.
+// Limits, each named once: entries and marks of a record, servers, the marks of a server's lock table and of all four, and the records that a
+// server holds, with their bytes.
 pub const REPLICAS: usize = 7;
 
 pub const SERVERS: usize = 4;
@@ -12,6 +16,13 @@ pub const SERVERS: usize = 4;
 pub const TABLE: usize = 1024;
 
 pub const TABLES: usize = 4096;
+
+pub const WINDOW: u64 = 8;
+
+pub const HELD: usize = WINDOW as usize * PLACE;
+
+// The last records that a session issued, as places: oldest first, the newest always last.
+pub type Held = [u8; HELD];
 
 // R, the number of replicas; N, the places of each medium; K, the checkpoint interval: so many IDs a session may issue.
 pub struct Shape {
@@ -52,7 +63,7 @@ pub struct Phases {
 }
 
 // A server's record. `entries` are those that take handed over. `known`: the replicas known (opening), the members (open);
-// `dropped`: members that were silent. `marks` are the recorded marks, `held` is the issued record.
+// `dropped`: members that were silent. `marks` are the recorded marks; `held`, the last eight records issued.
 pub struct Server {
     pub phase: Phase,
     pub session: u64,
@@ -64,7 +75,7 @@ pub struct Server {
     pub start: u64,
     pub issued: u64,
     pub acked: u64,
-    pub held: [u8; 64],
+    pub held: Held,
 }
 
 pub struct Records {
@@ -161,7 +172,7 @@ pub fn idle() -> Server
         start: 0,
         issued: 0,
         acked: 0,
-        held: [0; 64],
+        held: [0; HELD],
     }
 }
 

@@ -16,6 +16,7 @@ use cluster::Closing;
 use cluster::Refusal;
 use cluster::Server;
 use cluster::Shape;
+use cluster::held::holds;
 use crc32::Tables;
 use fate::Fate;
 use quorum::Vote;
@@ -137,7 +138,7 @@ fn plan_note(t: &Tables, shape: Shape, v: Server, i: usize, f: Fate, given: &Pla
     planned(k, Operation::Note(v.start, mark))
 }
 
-// The issued record, behind the recorded mark.
+// The record that follows the recorded mark, if it is held.
 fn plan_send(t: &Tables, shape: Shape, v: Server, i: usize, f: Fate, given: &Place) -> Plan
     requires { ⌜ now t ≡ tablesOf ⌝ }
     requires { ⌜ (i < 7) × (markAt v i ≤ 1000) ⌝ }
@@ -145,7 +146,8 @@ fn plan_send(t: &Tables, shape: Shape, v: Server, i: usize, f: Fate, given: &Pla
 {
     let mark = v.marks[i];
     let k = check_message(t, shape, v, i, f, given);
-    let k = also(k, mark + 1 != v.issued, Refusal::NothingToDo);
+    let held = holds(v.start, v.issued, mark + 1);
+    let k = also(k, !held, Refusal::NothingToDo);
     planned(k, Operation::Append(mark))
 }
 

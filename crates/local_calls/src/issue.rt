@@ -3,22 +3,23 @@ ghost use mathlib.Core.Path.{_≡_};
 ghost use mathlib.Core.List.{[], _∷_};
 ghost use Prim.Native.Nat.{_+_, _≤_, _<_, _^_};
 ghost use lib.ListN.{length};
-ghost use lib.Dec.{leb};
 ghost use Rattle.locks.specs.Locks.{firstHeld, markedAll};
 ghost use Rattle.storage.specs.Sizes.{dataLimit};
 ghost use Rattle.storage.specs.Places.{recordBytes};
 ghost use Rattle.cluster.specs.declared.Answer.the-variants.{Value};
 ghost use Rattle.cluster.specs.declared.Call.the-variants as call;
-ghost use Rattle.cluster.specs.State.{tableAt, withTable};
-ghost use Rattle.cluster.specs.Refusals.{firstOf, andThen, tooMuch, lockRow, requestRows};
+ghost use Rattle.cluster.specs.State.{tableAt, withTable, heldAfter};
+ghost use Rattle.cluster.specs.Refusals.{onlyOpen, wrongPhase, row, firstOf, andThen, tooMuch, lockRow, requestRows};
 ghost use Rattle.cluster.specs.Effects.{issuedFields, issuedServer};
 ghost use Rattle.cluster.specs.Step.{step};
 ghost use Rattle.checks.specs.Verdicts.{verdictOf};
 ghost use Rattle.checks.specs.Results.{noFiles, noStamp, stateOf, resultOf};
 use checks::Change;
 use checks::Check;
+use checks::allowed;
 use checks::also;
 use cluster::Answer;
+use cluster::Held;
 use cluster::Outcome;
 use cluster::Phases;
 use cluster::Records;
@@ -27,6 +28,9 @@ use cluster::Request;
 use cluster::Server;
 use cluster::Shape;
 use cluster::TABLE;
+use cluster::WINDOW;
+use cluster::held::appended;
+use cluster::held::lags;
 use locks::LockTest;
 use storage::place::Fields;
 use storage::sizes::DATA_LIMIT;
@@ -52,16 +56,6 @@ fn lock_check(t: LockTest) -> Check
     }
 }
 
-// 23: issued less the starting mark is K or more. An issued mark below the starting one is no more than it.
-fn checkpoint_due(interval: u64, start: u64, issued: u64) -> bool
-    ensures { λ b. ⌜ b ≡ leb (start + interval) issued ⌝ }
-{
-    if issued < start {
-        return false;
-    }
-    interval <= issued - start
-}
-
 // 15, of a request that was not declined before: only then are its locks looked up in server i's table.
 fn also_locks(k: Check, tables: &[u64], i: usize, locks: &[u64], client: u64) -> Check
     requires { ⌜ (i < 4) × (length (now tables) ≡ 4096) ⌝ }
@@ -75,7 +69,7 @@ fn also_locks(k: Check, tables: &[u64], i: usize, locks: &[u64], client: u64) ->
     }
 }
 
-// issue's own refusals, in their order: of a request with so many bytes of data, by server i's record and lock table.
+// 5 and issue's own refusals, in their order: of a request with so many bytes of data, by server i's record and lock table.
 fn judge(
     shape: Shape,
     v: Server,
@@ -86,11 +80,19 @@ fn judge(
     locks: &[u64],
 ) -> Check
     requires { ⌜ (i < 4) × (length (now tables) ≡ 4096) ⌝ }
-    ensures { λ k. ⌜ verdictOf k ≡ firstOf (requestRows shape v request size (tableAt i (now (tables .entry))) (now (locks .entry))) ⌝ }
+    ensures { λ k. ⌜ verdictOf k ≡ firstOf (row 5 (wrongPhase onlyOpen v) ∷ requestRows shape v request size (tableAt i (now (tables .entry))) (now (locks .entry))) ⌝ }
 {
+    let p = v.phase;
+    let phases = Phases {
+        idle: false,
+        opening: false,
+        open: true,
+    };
+    let other = !allowed(p, phases);
+    let many = lags(v.acked, WINDOW, v.issued);
     let full = v.issued == shape.places;
-    let due = checkpoint_due(shape.interval, v.start, v.issued);
-    let k = Check::Pass;
+    let due = lags(v.start, shape.interval, v.issued);
+    let k = also(Check::Pass, other, Refusal::OtherPhase);
     let k = also(
         k,
         request.generation != v.generation,
@@ -98,16 +100,16 @@ fn judge(
     );
     let k = also(k, v.acked < request.mark, Refusal::ClientAhead);
     let k = also(k, exceeds(size, locks.len()), Refusal::TooMuch);
-    let k = also(k, v.acked < v.issued, Refusal::Unacknowledged);
+    let k = also(k, many, Refusal::Unacknowledged);
     let k = also(k, full, Refusal::Full);
     let k = also(k, due, Refusal::CheckpointDue);
     also_locks(k, tables, i, locks, request.mark)
 }
 
-// The place's 64 bytes for a request under this ID.
-fn record_of(id: u64, request: Request, content: &[u8]) -> [u8; 64]
+// The records held once a request has this ID: the newest is its own.
+fn held_after(held: Held, id: u64, request: Request, content: &[u8]) -> Held
     requires { ⌜ length (now content) ≤ dataLimit ⌝ }
-    ensures { λ r. ⌜ r ≡ recordBytes (issuedFields id request) (now (content .entry)) ⌝ }
+    ensures { λ r. ⌜ r ≡ heldAfter held (recordBytes (issuedFields id request) (now (content .entry))) ⌝ }
 {
     let fields = Fields {
         id: id,
@@ -118,9 +120,7 @@ fn record_of(id: u64, request: Request, content: &[u8]) -> [u8; 64]
         header: request.header,
     };
     let t = crc32::tables();
-    let mut held = [0; 64];
-    storage::place::encode(&t, &mut held, fields, content);
-    held
+    appended(&t, held, fields, content)
 }
 
 // A server's record once the request is issued, and the ID as the answer.
@@ -130,7 +130,8 @@ fn issued(v: Server, request: Request, content: &[u8]) -> Change
     ensures { λ c. ⌜ c ≡ record { server = issuedServer v request (now (content .entry)); answer = Value (v .issued + 1) } ⌝ }
 {
     let id = v.issued + 1;
-    let held = record_of(id, request, content);
+    let before = v.held;
+    let held = held_after(before, id, request, content);
     let mut next = v;
     next.issued = id;
     next.held = held;
@@ -162,12 +163,7 @@ pub fn issue(
 ) -> Outcome
     ensures { λ o. ⌜ resultOf o (now (media .entry)) (now (tables .exit)) ≡ step shape (stateOf records (now (media .entry)) (now (tables .entry))) (record { call = call.Issue server request; content = now (content .entry); locks = now (locks .entry); given = []; stamp = noStamp; files = noFiles }) ⌝ }
 {
-    let phases = Phases {
-        idle: false,
-        opening: false,
-        open: true,
-    };
-    let k = checks::admit_phase(shape, records, media.len(), tables.len(), server, phases);
+    let k = checks::admit_server(shape, records, media.len(), tables.len(), server);
     if let Check::Refuse(why) = k {
         return checks::declined(records, why);
     }

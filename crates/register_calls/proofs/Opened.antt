@@ -82,15 +82,15 @@ module _ (v : Server) (d r : ℕ) (clean : List Bool) (h : r ≤ 7) (e : clean �
 
 -- 8 and 9 by the ballot: 9 need only be right if the mark is decided
 pub ballot-rows :
-    (v : Server) (r : ℕ) (b : Ballot) (a z : Row)
+    (v : Server) (r : ℕ) (b : Ballot) (o a z : Row)
     → Counted v r b
-    → firstOf (a ∷ row 8 (not (b .decided)) ∷ row 9 (b .few) ∷ z ∷ []) ≡ firstOf (a ∷ row 8 (undecided r v) ∷ row 9 (tooFewClean r v (voteMark r v)) ∷ z ∷ [])
+    → firstOf (o ∷ a ∷ row 8 (not (b .decided)) ∷ row 9 (b .few) ∷ z ∷ []) ≡ firstOf (o ∷ a ∷ row 8 (undecided r v) ∷ row 9 (tooFewClean r v (voteMark r v)) ∷ z ∷ [])
 unfolding firstOf
-ballot-rows v r b a z n = go (b .decided) refl
+ballot-rows v r b o a z n = go (b .decided) refl
   where
     go :
         (t : Bool)
         → b .decided ≡ t
-        → firstOf (a ∷ row 8 (not (b .decided)) ∷ row 9 (b .few) ∷ z ∷ []) ≡ firstOf (a ∷ row 8 (undecided r v) ∷ row 9 (tooFewClean r v (voteMark r v)) ∷ z ∷ [])
+        → firstOf (o ∷ a ∷ row 8 (not (b .decided)) ∷ row 9 (b .few) ∷ z ∷ []) ≡ firstOf (o ∷ a ∷ row 8 (undecided r v) ∷ row 9 (tooFewClean r v (voteMark r v)) ∷ z ∷ [])
     go true q = rw (← (n .voted), n .short q, n .at q)
     go false q = rw (← (n .voted), q)

@@ -225,11 +225,12 @@ fn fill(tables: &mut [u64], i: usize, d: u64, fate: Fate)
     }
 }
 
-// 6, 8, 9 and 22. `differs`: the register's session isn't the server's.
-fn judge(b: Ballot, fate: Fate, differs: bool) -> Check
-    ensures { λ k. ⌜ verdictOf k ≡ firstOf (row 6 (isCut fate) ∷ row 8 (not (b .decided)) ∷ row 9 (b .few) ∷ seen fate 22 differs ∷ []) ⌝ }
+// 5, 6, 8, 9 and 22. `other`: the server is in another phase; `differs`: the register's session isn't the server's.
+fn judge(other: bool, b: Ballot, fate: Fate, differs: bool) -> Check
+    ensures { λ k. ⌜ verdictOf k ≡ firstOf (row 5 other ∷ row 6 (isCut fate) ∷ row 8 (not (b .decided)) ∷ row 9 (b .few) ∷ seen fate 22 differs ∷ []) ⌝ }
 {
-    let k = also(Check::Pass, is_cut(fate), Refusal::UnfitFate);
+    let k = also(Check::Pass, other, Refusal::OtherPhase);
+    let k = also(k, is_cut(fate), Refusal::UnfitFate);
     let k = also(k, !b.decided, Refusal::Undecided);
     let k = also(k, b.few, Refusal::TooFewClean);
     also(k, both(is_answered(fate), differs), Refusal::OtherSession)
@@ -250,7 +251,7 @@ pub fn open(
         opening: true,
         open: false,
     };
-    let k = checks::admit_phase(shape, records, media.len(), tables.len(), server, phases);
+    let k = checks::admit_server(shape, records, media.len(), tables.len(), server);
     if let Check::Refuse(why) = k {
         return checks::declined(records, why);
     }
@@ -258,8 +259,10 @@ pub fn open(
     let r = shape.replicas as usize;
     let g = records.register;
     let v = records.servers[i];
+    let p = v.phase;
     let b = count_ballot(v, r);
-    let k = judge(b, fate, g.session != v.session);
+    let other = !checks::allowed(p, phases);
+    let k = judge(other, b, fate, g.session != v.session);
     match k {
         Check::Refuse(why) => checks::declined(records, why),
         Check::Pass => {

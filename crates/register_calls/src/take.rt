@@ -19,6 +19,7 @@ use checks::Check;
 use checks::also;
 use checks::both;
 use cluster::Answer;
+use cluster::HELD;
 use cluster::Outcome;
 use cluster::Phase;
 use cluster::Phases;
@@ -67,7 +68,7 @@ fn opening(g: Register) -> Server
         start: 0,
         issued: 0,
         acked: 0,
-        held: [0; 64],
+        held: [0; HELD],
     }
 }
 

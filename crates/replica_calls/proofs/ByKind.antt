@@ -3,13 +3,13 @@
 use mathlib.Core.Path.{_≡_, refl, sym, ap, _∙_}
 use mathlib.Core.Bool.{false, _||_, and-false, or-false}
 use mathlib.Core.List.{List, [], _∷_, _++_}
-use Prim.Native.Nat.{ℕ}
+use Prim.Native.Nat.{ℕ, _+_}
 use Rattle.fate.specs.declared.Fate.{Fate}
 use Rattle.storage.specs.declared.operation.Operation.{Operation}
 use Rattle.storage.specs.Operations.{mediumAt}
 use Rattle.cluster.specs.declared.Shape.{Shape}
 use Rattle.cluster.specs.declared.Server.{Server}
-use Rattle.cluster.specs.State.{State, serverAt, markAt}
+use Rattle.cluster.specs.State.{State, serverAt, markAt, recordOf}
 use Rattle.cluster.specs.Refusals.{noReplicaAt, noSlot, promiseAbove, answered, seen, replicaRows, preparedRows, checksOf, pass, firstOf}
 use Rattle.cluster.specs.Effects.{Result, prepareEffect, trimEffect, noteEffect, appendEffect}
 use Rattle.cluster.specs.Step.{effect, rest, onceAdmitted, onceSent, step}
@@ -29,6 +29,10 @@ use Rattle.delivery.specs.declared.plan.Kind.{Kind}
 use Rattle.delivery.specs.declared.plan.Kind.the-variants.{Prepare, Trim, Note, Send}
 use Rattle.delivery.specs.Plans.{callOf, phasesOf, sendingRows, operationOf, checkOf, Planned}
 use Rattle.delivery.specs.Messages.{operationEffect, operated, Named}
+
+-- the record that follows replica i's mark: a send appends it
+abbrev following : Server → ℕ → List ℕ
+following v i = recordOf v (markAt v i + 1)
 
 module _ (h : Shape) (x : State) (s i : ℕ) (f : Fate) (given : List ℕ) where
   abbrev v : Server
@@ -55,7 +59,7 @@ module _ (h : Shape) (x : State) (s i : ℕ) (f : Fate) (given : List ℕ) where
   unfolding firstOf
   prepared m = rw (and-false (answered f))
 
-  pub sent-is : (k : Kind) → operated h x s i (operationOf k (h .replicas) v i) (v .held) f given ≡ onceSent h x (inputOf (callOf k s i f) given)
+  pub sent-is : (k : Kind) → operated h x s i (operationOf k (h .replicas) v i) (following v i) f given ≡ onceSent h x (inputOf (callOf k s i f) given)
   unfolding operationEffect prepareEffect trimEffect noteEffect appendEffect
   sent-is Prepare =
       let m = mediumAt (h .places) i (x .media) in
@@ -82,17 +86,18 @@ module _ (h : Shape) (r : Records) (media tables : List ℕ) (s i : ℕ) (f : Fa
         (rw (d, ← q) (declined-server r s why)))
 
     pub plan-does :
-        {o : Operation} {z : Result}
+        {o : Operation} {z : Result} {bs : List ℕ}
         → p ≡ Do o
-        → z ≡ operated h y s i o (v .held) f given
+        → bs ≡ following v i
+        → z ≡ operated h y s i o bs f given
         → z ≡ onceAdmitted h y (inputOf (callOf k s i f) given)
-    plan-does {o} {z} e d =
+    plan-does {o} {z} {bs} e same-bytes d =
         let same : o ≡ operationOf k (h .replicas) (serverAt r s) i = l .does o e ∙ ap (λ (w : Server). operationOf k (h .replicas) w i) (sym q) in
-        let record-is : v .held ≡ serverAt r s .held = ap (λ (w : Server). w .held) (sym q) in
+        let bytes-are : bs ≡ following (serverAt r s) i = same-bytes ∙ ap (λ (w : Server). following w i) (sym q) in
         rw (sending-is h y s i f given k)
         (goes-on r media tables _ (sendingRows k h (serverAt r s) i f given) _ {k = checkOf p} (rw q (l .checked)) (ap checkOf e)
-        (d ∙ ap (λ (u : Operation). operated h y s i u (v .held) f given) same
-        ∙ ap (λ (b : List ℕ). operated h y s i (operationOf k (h .replicas) (serverAt r s) i) b f given) record-is
+        (d ∙ ap (λ (u : Operation). operated h y s i u bs f given) same
+        ∙ ap (λ (b : List ℕ). operated h y s i (operationOf k (h .replicas) (serverAt r s) i) b f given) bytes-are
         ∙ sent-is h y s i f given k))
 
 -- the operation of a plan is one for the replica's medium: 16 of send leaves room for a record
@@ -104,7 +109,7 @@ fits-operation :
 fits-operation Prepare h v i bytes f given n e = (tt, tt)
 fits-operation Trim h v i bytes f given n e = (tt, tt)
 fits-operation Note h v i bytes f given n e = (tt, tt)
-fits-operation Send h v i bytes f given n e = (send-room (markAt v i) (v .issued) (h .places) (passed (sendingRows Send h v i f given) e 16) (n .issued), refl)
+fits-operation Send h v i bytes f given n e = (send-room v (markAt v i) (h .places) (passed (sendingRows Send h v i f given) e 16) (n .issued), refl)
 
 pub fits-kind :
     (k : Kind) (h : Shape) (v : Server) (i bytes : ℕ) (f : Fate) (given : List ℕ)

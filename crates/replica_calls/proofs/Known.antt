@@ -8,11 +8,12 @@ use mathlib.Core.Logic.{⊎-elim}
 use Prim.Native.Nat.{ℕ, _+_, _≤_, _<_}
 use native.Mathlib.Omega.{arith}
 use lib.Dec.{eqb, leb, ltb}
-use borrow.Author.Tests.{leb-false, not-false, eqb-true, eqb-false, ltb-true, ltb-false}
+use borrow.Author.Tests.{leb-false, not-false, eqb-false, ltb-true, ltb-false}
 use Rattle.base.proofs.Tests.{lt-or-le, neither}
 use Rattle.cluster.specs.declared.Shape.{Shape}
 use Rattle.cluster.specs.declared.Server.{Server}
-use Rattle.cluster.specs.State.{markAt}
+use Rattle.cluster.specs.State.{markAt, holds}
+use Rattle.cluster.proofs.Window.{within}
 use Rattle.cluster.specs.Refusals.{wrongPhase, notTwo, nothingToRead, row, replicaRows, firstOf}
 use Rattle.cluster.specs.declared.Records.{Records}
 use Rattle.cluster.specs.declared.Phases.{Phases}
@@ -47,8 +48,8 @@ admits h r m t s unnamed phases v q = (
 )
 
 -- 16 of send and of copy: the place behind the mark is one of the medium's
-pub send-room : (mark issued N : ℕ) → not (eqb (mark + 1) issued) ≡ false → issued ≤ N → mark < N
-send-room mark issued N e l = omega (arith, eqb-true (mark + 1) issued (not-false (eqb (mark + 1) issued) e))
+pub send-room : (v : Server) (mark N : ℕ) → not (holds v (mark + 1)) ≡ false → v .issued ≤ N → mark < N
+send-room v mark N e l = omega (arith, within v (mark + 1) (not-false (holds v (mark + 1)) e) .reached)
 
 pub copy-room : (mark source N : ℕ) → not (ltb mark source) ≡ false → source ≤ N → mark < N
 copy-room mark source N e l = omega (arith, ltb-true mark source (not-false (ltb mark source) e))

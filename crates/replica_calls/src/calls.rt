@@ -21,6 +21,7 @@ use cluster::Phases;
 use cluster::Records;
 use cluster::Server;
 use cluster::Shape;
+use cluster::held::record_of;
 use delivery::deliver;
 use delivery::plan::Kind;
 use delivery::plan::Plan;
@@ -55,7 +56,8 @@ fn phases_of(kind: Kind) -> Phases
     }
 }
 
-// A call that is admitted: its plan, and the message. The CRC tables are made here, once for both.
+// A call that is admitted: its plan, and the message, with the record that follows the replica's mark beside it, which only a send writes.
+// The CRC tables are made here, once for both.
 fn served(
     kind: Kind,
     shape: Shape,
@@ -69,11 +71,14 @@ fn served(
     ensures { λ c. ⌜ ((r : Records) (s : ℕ) (tables : List ℕ) → serverAt r s ≡ v → resultOf (changed r s c) (now (media .exit)) tables ≡ onceAdmitted shape (stateOf r (now (media .entry)) tables) (inputOf (callOf kind s i fate) (now (given .entry)))) ⌝ }
 {
     let t = crc32::tables();
-    let held = v.held;
     let plan = plan_of(&t, kind, shape, v, i, fate, given);
     match plan {
         Plan::Refuse(why) => unchanged_server(v, why),
-        Plan::Do(op) => deliver(&t, shape, v, media, i, op, &held, given, fate),
+        Plan::Do(op) => {
+            let held = v.held;
+            let src = record_of(&held, v.issued, v.marks[i] + 1);
+            deliver(&t, shape, v, media, i, op, &src, given, fate)
+        }
     }
 }
 
@@ -188,7 +193,7 @@ pub fn note(
     )
 }
 
-// send i (open): the issued record is written in the place behind i's mark; the acknowledged mark is answered.
+// send i (open): the record that follows i's mark is written in the place behind it; the acknowledged mark is answered.
 pub fn send(
     shape: Shape,
     records: Records,

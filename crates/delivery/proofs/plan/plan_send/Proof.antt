@@ -16,8 +16,11 @@ element-copy-out-mark c = search needs
 check-message-requires : tie.Need-check-message-requires
 check-message-requires c κs = search needs
 
-add-also : tie.Need-add-also
-add-also c = search needs
+add-holds : tie.Need-add-holds
+add-holds c = search needs
+
+holds-requires : tie.Need-holds-requires
+holds-requires c κs = search needs
 
 also-requires : tie.Need-also-requires
 also-requires c κs = search needs
@@ -26,7 +29,10 @@ planned-requires : tie.Need-planned-requires
 planned-requires c κs = search needs
 
 returns : tie.Need-returns
-returns c = as-planned (c .planned .ensures) (behind _ (_ ∷ []) (c .before .before .check-message .ensures) (c .before .also .ensures)) refl
+returns c =
+    as-planned (c .planned .ensures)
+    (behind _ (_ ∷ []) (c .before .before .before .check-message .ensures) (rw (← c .before .before .holds .ensures) (c .before .also .ensures)))
+    refl
 
 pub plan-send-spec : {M : Type 1} → statement M
 plan-send-spec =
@@ -35,7 +41,8 @@ plan-send-spec =
     mul-mark
     element-copy-out-mark
     check-message-requires
-    add-also
+    add-holds
+    holds-requires
     also-requires
     planned-requires
     returns)

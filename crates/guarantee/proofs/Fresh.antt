@@ -63,7 +63,7 @@ replica-tie N =
 server-tie : (R : ℕ) (table : List ℕ) (rows : ℕ → Row) → ServerTie R idleServer table 0 rows
 server-tie R table rows =
     record {
-      sized = record { known = refl; dropped = refl; marks = refl };
+      sized = record { known = refl; dropped = refl; marks = refl; held = refl };
       current = λ a. absurd (a refl);
       opening = λ p. let e : _≡_ {A = ℕ} 0 1 = cc in absurd (omega arith);
       serving = λ p. let e : _≡_ {A = ℕ} 0 1 = cc in absurd (omega arith);

@@ -25,8 +25,9 @@
 --   Registers   the register that an open leaves; Opening: what an open finds; Opened: what it leaves
 --
 -- Beside the theorem: Readable, every list of calls that fit is one of its lists; Whole, what it comes to for two sessions; Once, nothing in a history
--- is written over; Interval, a session issues K IDs at most; Readers, a client that has read everything is not declined by 15; Running, the states
--- that the running calls leave are those of the list. The crate guarantee_example works two lists out.
+-- is written over; Interval, a session issues K IDs at most; InFlight, what a server holds is what its session issued; Readers, whoever is declined by 15
+-- has something left to read or to wait for; Running, the states that the running calls leave are those of the list. The crate guarantee_example works
+-- three lists out.
 -- Assumes nothing.
 pub mod Ties
 pub mod Blocks
@@ -57,4 +58,5 @@ pub mod Readable
 pub mod Whole
 pub mod Once
 pub mod Interval
+pub mod InFlight
 pub mod Readers

@@ -21,9 +21,10 @@ use Rattle.cluster.specs.declared.Shape.{Shape}
 use Rattle.cluster.specs.declared.Register.{Register}
 use Rattle.cluster.specs.declared.Phase.the-variants.{Opening}
 use Rattle.cluster.specs.declared.Server.{Server}
-use Rattle.cluster.specs.State.{State, idleServer, serverAt, putServer, putRegister, markAt, memberAt, tableSize, tableAt, withTable}
+use Rattle.cluster.specs.State.{State, idleServer, serverAt, putServer, putRegister, markAt, memberAt, holds, tableSize, tableAt, withTable}
 use Rattle.cluster.specs.Refusals.{voteMark, cleanAt, sessionDiffers}
 use Rattle.cluster.specs.Effects.{openedRegister, openedServer}
+use Rattle.cluster.proofs.Window.{within}
 use Rattle.guarantee.specs.History.{History, stands, openedAt}
 use Rattle.guarantee.proofs.Sessions.{setAt-same, setAt-other}
 use Rattle.guarantee.proofs.Ties.{rowOf, storyOf, loggedOf, OpenTie, Live, ServersTie, RegisterTie, SessionTie, SessionsTie, Sim}
@@ -105,6 +106,11 @@ module _ (h : Shape) (x : State) (H : History) (σ : protocol.State) (S : Sim h 
   recorded i k e =
       upTo-at (λ i. cond (cleanAt v (voteMark R v) i) D 0) (replicate 7 0) R i 0 k seven ∙ rw (F .cleans i k ∙ e) (sym (clean-is σ z D i e .1))
 
+  -- nothing is issued yet, whatever lies in the record
+  none-held : {A : Type 0} (n : ℕ) → holds w n ≡ true → A
+  unfolding openedServer
+  none-held n e = let i = within w n e in absurd (omega (arith, i .above, i .reached))
+
   serving : OpenTie R w table (rowOf τ z)
   unfolding openedServer
   serving =
@@ -122,8 +128,8 @@ module _ (h : Shape) (x : State) (H : History) (σ : protocol.State) (S : Sim h 
         recorded = recorded;
         start = refl;
         issued = refl;
-        held = λ l. absurd (omega arith);
-        written = λ l. absurd (omega arith);
+        held = λ n e. none-held n e;
+        written = λ n e. none-held n e;
         estimate = λ k. starts D k;
         entered = λ k. omega arith;
       })
@@ -149,6 +155,7 @@ module _ (h : Shape) (x : State) (H : History) (σ : protocol.State) (S : Sim h 
               known = upTo-length (cleanAt v (voteMark R v)) (replicate 7 false) R;
               dropped = refl;
               marks = upTo-length (λ i. cond (cleanAt v (voteMark R v) i) D 0) (replicate 7 0) R;
+              held = S .servers .each s l .sized .held;
             };
         current = λ b. S .servers .each s l .current awake;
         opening = λ p. let e : _≡_ {A = ℕ} 0 1 = cc in absurd (omega arith);

@@ -1,21 +1,24 @@
--- WHO IS DECLINED BY 15 HAS SOMETHING LEFT TO READ: after every list of calls, the estimate that an issue is given with 15 lies above its client's mark,
--- and the server has acknowledged that ID. So a client that has read all that is acknowledged is not declined by 15, whichever locks it names: `readers`.
+-- WHO IS DECLINED BY 15 HAS SOMETHING LEFT TO READ OR TO WAIT FOR: after every list of calls, the estimate that an issue is given with 15 lies above its
+-- client's mark and not above what the server has issued. A client that has read all that is acknowledged is declined by 15 only for a record in flight, of
+-- which there are seven at most then; and one that has read all that is issued is not declined by 15, whichever locks it names: `readers`.
 -- This ends what document 02, No. 2, complains of: "A depot that has consumed every transaction is still turned down on a lock whose last writer it has
--- seen, and on an empty log no lock can be had." A table that is handed in, and that no list of calls leaves, may hold anything.
+-- seen, and on an empty log no lock can be had." Since No. 5 a lock's last writer may not be acknowledged yet: its next writer waits until it is
+-- (cluster proofs/InFlight `settled`).
+-- A table that is handed in, and that no list of calls leaves, may hold anything.
 -- The statement comes first, then its proof.
 -- Assumes nothing.
 use mathlib.Core.Path.{_≡_}
 use mathlib.Core.List.{List, [], _∷_}
-use Prim.Native.Nat.{ℕ, _≤_, _<_}
+use Prim.Native.Nat.{ℕ, _+_, _≤_, _<_}
 use native.Mathlib.Omega.{arith}
-use borrow.Author.Tests.{ltb-false}
+use borrow.Author.Tests.{leb-false}
 use Rattle.protocol.specs.State as protocol
 use Rattle.segment.specs.declared.header.Stamp.{Stamp}
 use Rattle.segment.specs.Pair.{Files}
 use Rattle.cluster.specs.declared.Shape.{Shape}
 use Rattle.cluster.specs.declared.Request.{Request}
 use Rattle.cluster.specs.declared.Call.the-variants as call
-use Rattle.cluster.specs.State.{State, serverAt}
+use Rattle.cluster.specs.State.{State, window, serverAt}
 use Rattle.cluster.specs.Refusals.{Input, rowsOf}
 use Rattle.cluster.specs.Replies.{Reply, no}
 use Rattle.cluster.specs.Step.{step}
@@ -34,27 +37,38 @@ use Rattle.guarantee.proofs.Along.{from-fresh}
 abbrev replied : Shape → State → ℕ → Request → (content locks given : List ℕ) → Stamp → Files → Reply
 replied h x s q content locks given stamp files = step h x (record { call = call.Issue s q; content = content; locks = locks; given = given; stamp = stamp; files = files }) .reply
 
--- what is given with 15 is a lock, and an ID above the client's mark that the server has acknowledged
+-- what is given with 15 is a lock, and an ID above the client's mark and at most the server's issued mark; fewer than eight are unacknowledged
 abbrev pub Unread : Shape → State → Type 0
 Unread h x =
     (s : ℕ) (q : Request) (content locks given : List ℕ) (stamp : Stamp) (files : Files) (values : List ℕ)
     → replied h x s q content locks given stamp files ≡ no 15 values
-    → (k : ℕ) × (e : ℕ) × (values ≡ k ∷ e ∷ []) × (q .mark < e) × (e ≤ serverAt (x .records) s .acked)
+    → let v = serverAt (x .records) s in
+    (k : ℕ) × (e : ℕ) × (values ≡ k ∷ e ∷ []) × (q .mark < e) × (e ≤ v .issued) × (v .issued < v .acked + window)
 
--- a client that has read all that is acknowledged is not declined by 15
+-- a client that has read all that is acknowledged: what is given with 15 is in flight
+abbrev pub Waiting : Shape → State → Type 0
+Waiting h x =
+    (s : ℕ) (q : Request) (content locks given : List ℕ) (stamp : Stamp) (files : Files) (values : List ℕ)
+    → let v = serverAt (x .records) s in
+    v .acked ≤ q .mark
+    → replied h x s q content locks given stamp files ≡ no 15 values
+    → (k : ℕ) × (e : ℕ) × (values ≡ k ∷ e ∷ []) × (v .acked < e) × (e ≤ v .issued)
+
+-- a client that has read all that is issued is not declined by 15
 abbrev pub Unlocked : Shape → State → Type 0
 Unlocked h x =
     (s : ℕ) (q : Request) (content locks given : List ℕ) (stamp : Stamp) (files : Files) (values : List ℕ)
-    → serverAt (x .records) s .acked ≤ q .mark
+    → serverAt (x .records) s .issued ≤ q .mark
     → ¬ (replied h x s q content locks given stamp files ≡ no 15 values)
 
 abbrev pub Readers : Type 0
 Readers = (h : Shape) → InRange h → (es : List Element) → CoveredAll h (beginning h) es
-    → Unread h (along h (beginning h) es .state) × Unlocked h (along h (beginning h) es .state)
+    → let x = along h (beginning h) es .state in
+    Unread h x × Waiting h x × Unlocked h x
 
 -- ================ its proof
 
--- no estimate is above what is issued, and 13 comes before 15: all that is issued is acknowledged
+-- no estimate is above what is issued, and 13 comes before 15
 unread : (h : Shape) (x : State) (H : History) (σ : protocol.State) → Sim h x H σ → Unread h x
 unfolding until
 unread h x H σ S s q content locks given stamp files values r =
@@ -64,15 +78,27 @@ unread h x H σ S s q content locks given stamp files values r =
     let v = serverAt (x .records) s in
     let row = S .servers .each s (below-four s (none 3)) .serving (is-open (v .phase) (none 5)) in
     let k = d .1 .lock in
-    let first = d .1 .first in
-    let all = ltb-false (v .acked) (v .issued) (none 13) in
-    (k, d .1 .estimate, d .1 .given, first .above, omega (arith, first .estimate, row .estimate k, row .entered k, row .issued, all))
+    let first = d .1 .first in (
+      k,
+      d .1 .estimate,
+      d .1 .given,
+      first .above,
+      omega (arith, first .estimate, row .estimate k, row .entered k, row .issued),
+      leb-false (v .acked + window) (v .issued) (none 13),
+    )
+
+waiting : (h : Shape) (x : State) → Unread h x → Waiting h x
+waiting h x u s q content locks given stamp files values read r =
+    let b = u s q content locks given stamp files values r in
+    (b .0, b .1, b .2, omega (arith, read, b .3), b .4)
 
 unlocked : (h : Shape) (x : State) → Unread h x → Unlocked h x
-unlocked h x u s q content locks given stamp files values read r = let b = u s q content locks given stamp files values r in omega (arith, read, b .3, b .4)
+unlocked h x u s q content locks given stamp files values read r =
+    let b = u s q content locks given stamp files values r in
+    omega (arith, read, b .3, b .4)
 
 pub readers : Readers
 readers h range es a =
     let w = from-fresh h range es a in
     let u = unread h _ _ (w .state) (w .sim) in
-    (u, unlocked h _ u)
+    (u, waiting h _ u, unlocked h _ u)

@@ -52,6 +52,7 @@ module _ (R : ℕ) (v : Server) (i : ℕ) (few : R ≤ 7) (l : i < R) (z : Sized
         known = length-set (v .known) i k ∙ z .known;
         dropped = length-set (v .dropped) i d ∙ z .dropped;
         marks = length-set (v .marks) i mark ∙ z .marks;
+        held = z .held;
       }
 
   -- known, or not known any more
@@ -124,7 +125,7 @@ module _ (R : ℕ) (v : Server) (i : ℕ) (few : R ≤ 7) (l : i < R) (z : Sized
 
 -- the acknowledged mark is not tied
 pub sized-acknowledged : (R : ℕ) (v : Server) → Sized v → Sized (acknowledge R v)
-sized-acknowledged R v z = record { known = z .known; dropped = z .dropped; marks = z .marks }
+sized-acknowledged R v z = record { known = z .known; dropped = z .dropped; marks = z .marks; held = z .held }
 
 pub open-acknowledged : (R : ℕ) (v : Server) (table : List ℕ) (ρ : Row) → OpenTie R v table ρ → OpenTie R (acknowledge R v) table ρ
 open-acknowledged R v table ρ T =

@@ -24,7 +24,7 @@ use Rattle.cluster.specs.declared.Shape.{Shape}
 use Rattle.cluster.specs.declared.Register.{Register}
 use Rattle.cluster.specs.declared.Phase.the-variants.{Idle, Opening, Open}
 use Rattle.cluster.specs.declared.Server.{Server}
-use Rattle.cluster.specs.State.{State, noServer, entryAt, markAt, memberAt, activeAt, tableSize, tableAt}
+use Rattle.cluster.specs.State.{State, noServer, entryAt, markAt, memberAt, activeAt, heldSize, holds, recordOf, tableSize, tableAt}
 use Rattle.guarantee.specs.History.{Transaction, Logged, Session, log, History, unopened}
 
 -- ================ what the protocol's state has of one replica, one session's server, one session's history
@@ -120,9 +120,9 @@ pub record OpenTie (R : ℕ) (v : Server) (table : List ℕ) (ρ : Row) : Type 0
   pub recorded : (i : ℕ) → i < R → ρ .member i ≡ true → markAt v i ≡ ρ .recorded i
   pub start : v .start ≡ ρ .start
   pub issued : v .issued ≡ ρ .issued
-  -- the held record is the last one issued, if there is one
-  pub held : ρ .start < ρ .issued → v .held ≡ ρ .log (ρ .issued) .bytes
-  pub written : ρ .start < ρ .issued → validPlace (ρ .issued) (v .held) ≡ true
+  -- each record that is held is the one issued under its ID
+  pub held : (n : ℕ) → holds v n ≡ true → recordOf v n ≡ ρ .log n .bytes
+  pub written : (n : ℕ) → holds v n ≡ true → validPlace n (recordOf v n) ≡ true
   -- no entry of the table is above the last ID issued, so the next one lowers none
   pub estimate : (k : ℕ) → estimateOf table k ≡ ρ .estimate k
   pub entered : (k : ℕ) → ρ .estimate k ≤ ρ .issued
@@ -130,11 +130,12 @@ pub record OpenTie (R : ℕ) (v : Server) (table : List ℕ) (ρ : Row) : Type 0
 abbrev pub Live : Server → Type 0
 Live v = v .phase ≡ Idle → ⊥
 
--- its arrays have seven elements
+-- its arrays have seven elements, and what is held has the bytes of eight places
 pub record Sized (v : Server) : Type 0 where
   pub known : length (v .known) ≡ 7
   pub dropped : length (v .dropped) ≡ 7
   pub marks : length (v .marks) ≡ 7
+  pub held : length (v .held) ≡ heldSize
 
 pub record ServerTie (R : ℕ) (v : Server) (table : List ℕ) (session′ : ℕ) (rows : ℕ → Row) : Type 0 where
   pub sized : Sized v

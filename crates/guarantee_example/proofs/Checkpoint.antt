@@ -23,7 +23,7 @@ use Rattle.guarantee_example.specs.Checkpoint.{shape, calls-1, calls-2, 
 use Rattle.guarantee_example.proofs.Outline.{Line, outline, retold, ReadAll, FitEach}
 use Rattle.guarantee_example.proofs.Worked.{unfolded, lines, opened-at, repliesIn, then-lines, told-by, covered, found}
 use Rattle.guarantee_example.proofs.Fitting.{issuing-fits, take, prepare, opens, send, stop, fit-then}
-use Rattle.guarantee_example.proofs.Written.{three, record-1, record-2, blank, slot-0, slot-1}
+use Rattle.guarantee_example.proofs.Written.{three, holding, record-1, record-2, blank, slot-0, slot-1}
 
 -- ================ the states after parts 1 and 2
 
@@ -58,10 +58,10 @@ standing a b n held =
     }
 
 unfoldable state-1 : State
-state-1 = standing blank blank 0 blank
+state-1 = standing blank blank 0 (holding 0 [])
 
 unfoldable state-2 : State
-state-2 = standing record-1 record-2 2 record-2
+state-2 = standing record-1 record-2 2 (holding 2 (record-1 ++ record-2))
 
 -- ================ the parts, worked out
 

@@ -1,5 +1,6 @@
--- Outline: how the history and the guarantee's premise are read off replies. Worked, Fitting: the same for lists of this crate. States, Parts: the
--- replies of specs/Example.antt, worked out. Example, Checkpoint: what the guarantee says of each list.
+-- Outline: how the history and the guarantee's premise are read off replies. Worked, Fitting: the same for lists of this crate. Written: what the
+-- written-out states are made of. States, Parts: the replies of specs/Example.antt, worked out. Example, Checkpoint, InFlight: what the guarantee says of
+-- each list.
 pub mod Outline
 pub mod Worked
 pub mod Fitting
@@ -8,3 +9,4 @@ pub mod States
 pub mod Parts
 pub mod Example
 pub mod Checkpoint
+pub mod InFlight

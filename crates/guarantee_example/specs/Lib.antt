@@ -1,3 +1,4 @@
 pub mod Elements
 pub mod Example
 pub mod Checkpoint
+pub mod InFlight

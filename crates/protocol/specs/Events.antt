@@ -6,7 +6,7 @@
 --   prepare i    forget s i; promise s i; cut s i k, where k is the mark after the wiping, as far as that came; learn s i, if answered.
 --                Lost, or the write of the slot was cut and the promise stayed: only forget s i.
 --   copy a, b    opening: copy s a b; then forget s b, if silent. Nothing written: only forget s b.
---                open: as send to b, of what stands in a's place (proofs/Traces.antt: it is what a send would write).
+--                open: as send to b, of what stands in a's place (proofs/Traces.antt: it is what a send would write, were it still held).
 --   trim i       trim s i D k, where k is the mark after the wiping, as far as that came; then forget s i, if silent. Lost: only forget s i.
 --   open         opens s D a; then stop s, if the answer is lost. Lost: only stop s.
 --   issue        issue s x e
@@ -20,7 +20,12 @@
 --
 -- A guard (Can-..) is what the named refusal leaves when it is not met. The guards ask only what the guarantee rests on, so that more is allowed
 -- than the calls do. Left out: that marks are within N (2, 14); that a dropped member is not used again (7); a request's generation, size
--- and acknowledged client mark (10, 11, 12); that one record is in flight at a time (13).
+-- and acknowledged client mark (10, 11, 12); how many records are in flight (13), and which records the server still holds (16).
+--
+-- Document 02, No. 5: "A server stopped with records in flight is one more case that the recovery guarantee has to cover, whichever of the eight reached
+-- whom." No event knows of eight. append is of any ID of the session that follows the replica's log, for any member at any time, and stop may come after
+-- any event: so each member's log above the starting mark is a beginning of what the session issued, of a length of its own, and every way in which the
+-- records may have reached the replicas is a list of events.
 -- Assumes nothing.
 use mathlib.Core.Path.{_≡_}
 use mathlib.Core.Bool.{true, false, cond}
@@ -137,7 +142,7 @@ pub record Can-issue (σ : State) (s : ℕ) (x : Tx) (e : ℕ → ℕ) : Type 0 
   pub rises : (l : ℕ) → σ .estimate s l ≤ e l
   pub enters : (l : ℕ) → List·Memᴰ l (x .locks) → suc (σ .issued s) ≤ e l
 
--- ---- append, the first of send: "writes the issued record [..] in place (i's mark + 1) of member i"
+-- ---- append, the first of send: document 02, No. 5, "send delivers the one that follows the replica's mark"
 
 abbrev pub after-append : State → ℕ → Tx → State
 after-append σ i x = with-replicas σ (σ .promise) (append-mark (σ .mark) i) (append-place (σ .place) (σ .mark) i x)

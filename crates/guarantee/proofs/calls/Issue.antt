@@ -1,18 +1,19 @@
 -- issue: the log of the session gets one more, and the lock table enters its locks.
 -- Assumes nothing.
 use mathlib.Core.Path.{_≡_, refl, sym, ap, _∙_}
-use mathlib.Core.Logic.{_≢_}
+use mathlib.Core.Logic.{_≢_, _⊎_, inl, inr}
 use mathlib.Core.Bool.{true, false, true≢false}
 use mathlib.Core.List.{List}
-use Prim.Native.Nat.{ℕ, suc, _+_, _*_, _≤_}
+use Prim.Native.Nat.{ℕ, suc, _+_, _*_, _≤_, _<_}
 use native.Mathlib.Omega.{arith}
 use lib.ListN.{length, set}
 use lib.Dec.{ltb}
 use borrow.Author.Tests.{ltb-false, eqb-false}
-use Rattle.base.proofs.Tests.{neither}
+use Rattle.base.proofs.Tests.{lt-or-le, neither}
 use Rattle.octets.proofs.Laws.{length-part}
-use Rattle.storage.specs.Sizes.{dataLimit}
-use Rattle.storage.specs.Places.{recordBytes, validPlace}
+use Rattle.storage.specs.Sizes.{dataLimit, placeLayout, placeSize}
+use Rattle.storage.specs.Places.{placeNumbers, recordBytes, validPlace}
+use Rattle.storage.proofs.Layouts.{record-length}
 use Rattle.storage.proofs.Records.{read-back}
 use Rattle.locks.specs.Locks.{estimateOf, markedAll}
 use Rattle.locks.proofs.Laws.{length-marked-all}
@@ -30,10 +31,11 @@ use Rattle.cluster.specs.declared.Phase.the-variants.{Open}
 use Rattle.cluster.specs.declared.Server.{Server}
 use Rattle.cluster.specs.declared.Request.{Request}
 use Rattle.cluster.specs.declared.Call.the-variants as call
-use Rattle.cluster.specs.State.{State, serverAt, tableSize, tableAt, withTable}
+use Rattle.cluster.specs.State.{State, serverAt, holds, recordOf, tableSize, tableAt, withTable}
 use Rattle.cluster.specs.Refusals.{lockLimit}
 use Rattle.cluster.specs.Effects.{issuedFields, issuedServer, issueEffect}
 use Rattle.cluster.proofs.Locked.{aware}
+use Rattle.cluster.proofs.Window.{within, length-held, issued-newest, issued-older}
 use Rattle.cluster.proofs.Marks.{marks-fit}
 use Rattle.guarantee.specs.History.{History, Logged, issuedAs, told}
 use Rattle.guarantee.proofs.Ties.{rowOf, storyOf, loggedOf, OpenTie, ServerTie, ServersTie, SessionTie, SessionsTie, Sim}
@@ -105,6 +107,13 @@ module _ (h : Shape) (x : State) (H : History) (σ : protocol.State) (content lo
   room =
       omega (arith, marks-fit h (x .records) s (below-four s (B .passed 3)) (B .passed 2) .issued, eqb-false (v .issued) (h .places) (B .passed 14))
 
+  short : length content ≤ dataLimit
+  short = ltb-false dataLimit (length content) (neither (ltb dataLimit (length content)) (ltb lockLimit (length locks)) (B .passed 12) .0)
+
+  full : length (tx .bytes) ≡ placeSize
+  unfolding recordBytes
+  full = record-length placeLayout (placeNumbers (issuedFields n q) (length content)) content refl short
+
   valid : validPlace n (tx .bytes) ≡ true
   valid =
       let r = B .covered .fits .request s q refl in
@@ -117,7 +126,7 @@ module _ (h : Shape) (x : State) (H : History) (σ : protocol.State) (content lo
         sequence = r .sequence;
         header = r .header;
       })
-      (ltb-false dataLimit (length content) (neither (ltb dataLimit (length content)) (ltb lockLimit (length locks)) (B .passed 12) .0))
+      short
       (B .covered .fits .content) .valid
 
   -- ---- the rows
@@ -145,6 +154,29 @@ module _ (h : Shape) (x : State) (H : History) (σ : protocol.State) (content lo
   last : upd (σ .log z) (suc (σ .issued z)) tx (suc (σ .issued z)) ≡ tx
   last = upd-same (σ .log z) (suc (σ .issued z)) tx
 
+  -- what is held: the new record, or one that was held before
+  module _ (m : ℕ) (e : holds w m ≡ true) where
+    abbrev HeldIs : Type 0
+    HeldIs = (recordOf w m ≡ upd (σ .log z) (suc (σ .issued z)) tx m .bytes) × (validPlace m (recordOf w m) ≡ true)
+
+    held-is : HeldIs
+    held-is = go (lt-or-le (v .issued) m)
+      where
+        go : (v .issued < m) ⊎ (m ≤ v .issued) → HeldIs
+        go (inl l) =
+            let is : m ≡ n = omega (arith, l, within w m e .reached) in
+            let new : recordOf w m ≡ tx .bytes = ap (recordOf w) is ∙ issued-newest v q content (tie .sized .held) full in
+            let here : upd (σ .log z) (suc (σ .issued z)) tx m ≡ tx = ap (upd (σ .log z) (suc (σ .issued z)) tx) (is ∙ next) ∙ last in (
+              new ∙ sym (ap (λ (t : Tx). t .bytes) here),
+              ap (validPlace m) new ∙ ap (λ (j : ℕ). validPlace j (tx .bytes)) is ∙ valid,
+            )
+        go (inr l) =
+            let o = issued-older v q content (tie .sized .held) m l e in
+            let other = upd-other (σ .log z) (suc (σ .issued z)) tx m (λ d. omega (arith, d, l, row .issued)) in (
+              o .1 ∙ row .held m (o .0) ∙ sym (ap (λ (t : Tx). t .bytes) other),
+              rw (o .1) (row .written m (o .0)),
+            )
+
   serving : OpenTie (h .replicas) w table′ (rowOf τ z)
   serving =
       rw (issued-z, log-z, estimate-z)
@@ -154,8 +186,8 @@ module _ (h : Shape) (x : State) (H : History) (σ : protocol.State) (content lo
         recorded = row .recorded;
         start = row .start;
         issued = next;
-        held = λ l. sym (ap (λ (t : Tx). t .bytes) last);
-        written = λ l. rw (← next) valid;
+        held = λ m e. held-is m e .0;
+        written = λ m e. held-is m e .1;
         estimate = λ k. refl;
         entered = λ k. omega (arith, next, tops table locks n k (below k));
       })
@@ -181,7 +213,7 @@ module _ (h : Shape) (x : State) (H : History) (σ : protocol.State) (content lo
       (λ a. alone)
       (rw (written-table .0)
       (record {
-        sized = record { known = tie .sized .known; dropped = tie .sized .dropped; marks = tie .sized .marks };
+        sized = record { known = tie .sized .known; dropped = tie .sized .dropped; marks = tie .sized .marks; held = length-held (v .held) (tx .bytes) (tie .sized .held) full };
         current = λ a. tie .current awake;
         opening = λ p. let e : _≡_ {A = ℕ} 0 1 = cc (p, serves) in absurd (omega arith);
         serving = λ p. serving;

@@ -1,12 +1,12 @@
--- send: the held record comes behind the member's log, or the log stays; then the acknowledged mark is computed anew.
+-- send: the record that follows the member's log comes behind it, or the log stays; then the acknowledged mark is computed anew.
 -- Assumes nothing.
 use mathlib.Core.Path.{_≡_, refl, sym, ap, _∙_}
 use mathlib.Core.Bool.{true, false}
 use mathlib.Core.List.{List}
 use mathlib.Core.Option.{Option, some}
-use Prim.Native.Nat.{ℕ, suc, _+_, _<_}
+use Prim.Native.Nat.{ℕ, suc, _+_}
 use native.Mathlib.Omega.{arith}
-use borrow.Author.Tests.{eqb-true, not-false}
+use borrow.Author.Tests.{not-false}
 use Rattle.fate.specs.declared.Fate.{Fate}
 use Rattle.storage.specs.Operations.{mediumAt}
 use Rattle.protocol.specs.State as protocol
@@ -16,8 +16,9 @@ use Rattle.cluster.specs.declared.Shape.{Shape}
 use Rattle.cluster.specs.declared.Phase.the-variants.{Open}
 use Rattle.cluster.specs.declared.Server.{Server}
 use Rattle.cluster.specs.declared.Call.the-variants as call
-use Rattle.cluster.specs.State.{State, serverAt, markAt, activeAt, tableAt}
+use Rattle.cluster.specs.State.{State, serverAt, markAt, activeAt, holds, recordOf, tableAt}
 use Rattle.cluster.specs.Refusals.{refusesAt}
+use Rattle.cluster.proofs.Window.{Within, within}
 use Rattle.guarantee.specs.History.{Transaction, History, transactionIn, told}
 use Rattle.guarantee.proofs.Ties.{Sim, ReplicaTie, OpenTie, copyOf, rowOf, loggedOf, transactionOf}
 use Rattle.guarantee.proofs.Passing.{below-four, is-open}
@@ -65,39 +66,27 @@ module _ (h : Shape) (x : State) (H : History) (σ : protocol.State) (content lo
   abbrev issues : ℕ → Option Transaction
   issues n = transactionIn (H .sessions (H .current s) .issues n)
 
-  -- a replica that does not decline: the held record is of the ID behind its log
+  -- a replica that does not decline: a record is held of the ID behind its log, whichever of the session's that is
   module _ (e : refusesAt (h .places) v (x .media) i ≡ false) where
-    next : suc (σ .mark i) ≡ σ .issued z
-    next =
-        omega (
-          arith,
-          eqb-true (markAt v i + 1) (v .issued) (not-false _ (B .passed 16)),
-          agrees (h .places) v i m e .mark,
-          T .mark,
-          row .issued,
-        )
+    next : markAt v i + 1 ≡ suc (σ .mark i)
+    next = omega (arith, agrees (h .places) v i m e .mark, T .mark)
+
+    there : holds v (suc (σ .mark i)) ≡ true
+    there = ap (holds v) (sym next) ∙ not-false _ (B .passed 16)
 
     -- which this session issued
-    own : σ .start z < σ .issued z
-    own =
-        omega (
-          arith,
-          next,
-          B .inv .acks .above z i (B .inv .numbers .live z (row .phase)) member,
-          row .recorded i (M .replica) member,
-          agrees (h .places) v i m e .mark,
-          T .mark,
-        )
+    own : Within (v .start) (v .issued) (suc (σ .mark i))
+    own = within v (suc (σ .mark i)) there
 
     issued : issues (suc (σ .mark i)) ≡ some (transactionOf (σ .log z (suc (σ .mark i))))
     issued =
         let told = S .sessions z .opened (B .inv .numbers .live z (row .phase)) in
         let n = suc (σ .mark i) in
         let l : H .sessions z .issues n ≡ some (loggedOf (σ .log z n)) =
-        sym (log-issued (H .sessions z) n (omega (arith, told .start, own, next))) ∙ told .logged n (omega arith) (omega (arith, next)) in
+        sym (log-issued (H .sessions z) n (omega (arith, told .start, row .start, own .above))) ∙ told .logged n (omega arith) (omega (arith, row .issued, own .reached)) in
         ap (λ (u : ℕ). transactionIn (H .sessions u .issues n)) (S .servers .each s (M .server) .current (open-lives v opened)) ∙ ap transactionIn l
 
-    sends : Appendable h σ z i (v .held) issues
+    sends : Appendable h σ z i (recordOf v (markAt v i + 1)) issues
     sends =
         record {
           tx = σ .log z (suc (σ .mark i));
@@ -106,18 +95,18 @@ module _ (h : Shape) (x : State) (H : History) (σ : protocol.State) (content lo
                 phase = row .phase;
                 member = member;
                 promise = sym (T .promise) ∙ agrees (h .places) v i m e .promise;
-                issued = omega (arith, next);
+                issued = omega (arith, row .issued, own .reached);
                 next = refl;
               };
-          bytes = row .held own ∙ ap (λ (n : ℕ). σ .log z n .bytes) (sym next);
-          valid = rw next (row .written own);
-          room = omega (arith, next, row .issued, M .within .issued);
+          bytes = ap (recordOf v) next ∙ row .held (suc (σ .mark i)) there;
+          valid = rw next (row .written (suc (σ .mark i)) there);
+          room = omega (arith, own .reached, M .within .issued);
           whose = issued;
         }
 
   pub send-played : Played h x H σ (with-call (call.Send s i f) content locks given stamp files reader)
   unfolding told
   send-played =
-      open-append h x H σ S (B .inv) s i f given M opened active issues (v .held)
+      open-append h x H σ S (B .inv) s i f given M opened active issues (recordOf v (markAt v i + 1))
       (accepts (h .places) v (x .media) i f (B .passed 18) (B .passed 19) (B .passed 20))
       sends (λ n. n) (λ n. omega arith)

@@ -141,7 +141,7 @@ module _ (h : Shape) (x : State) (H : History) (σ : protocol.State) (content lo
               server-frame _ _ _ _ _ (S .servers) s (below-four s (B .passed 3)) w (x .tables) (setAt (H .current) s (g .session + 1)) (rowOf τ) (off (g .session + 1))
               (λ a. rw in-z (next-alone h x H σ S (B .inv) s))
               (record {
-                sized = record { known = refl; dropped = refl; marks = refl };
+                sized = record { known = refl; dropped = refl; marks = refl; held = refl };
                 current = λ a. setAt-same (H .current) s (g .session + 1);
                 opening = λ p. subst (λ (u : ℕ). OpeningTie (h .replicas) w (rowOf τ u)) (sym in-z) opening;
                 serving = λ p. let e : _≡_ {A = ℕ} 0 1 = cc in absurd (omega arith);

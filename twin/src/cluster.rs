@@ -11,4 +11,4 @@ mod state;
 
 pub use call::{Call, Message, Request};
 pub use reply::{first_row, Answer, Refusal, Reply, BY_RECEIVER, FILES_ROW, ORDER};
-pub use state::{Cluster, Entry, Phase, Records, Register, Server, Shape, Standing, SERVERS};
+pub use state::{Cluster, Entry, Phase, Records, Register, Server, Shape, Standing, HELD, SERVERS};

@@ -6,13 +6,13 @@
 pub mod scan;
 mod stage;
 
-use crate::cluster::{Answer, Call, Cluster, Entry};
+use crate::cluster::{Answer, Call, Cluster, Entry, HELD};
 use crate::crc::crc32;
 use crate::fate::Fate;
-use crate::medium;
+use crate::medium::{self, PLACE_BYTES};
 use crate::segment::{self, Pair, Stamp};
 use scan::mark_by_products;
-use stage::{filled, issue, make, message, prepare_all};
+use stage::{filled, make, message, prepare_all};
 
 /// The bytes whose CRC is taken.
 const CRC_BYTES: usize = 65536;
@@ -33,6 +33,7 @@ fn answer(line: &str) -> Option<String> {
         "open" => open,
         "export" => export,
         "import" => import,
+        "issue" => issue,
         _ => return None,
     };
     Some(job(count.parse().ok()?).to_string())
@@ -61,7 +62,7 @@ fn marks(count: u64, mark: fn(&[u8]) -> u64) -> u64 {
 /// One send of record 1,000 to a replica that holds 999.
 fn send(count: u64) -> u64 {
     let mut cluster = filled(999);
-    issue(&mut cluster);
+    stage::issue(&mut cluster);
     let ready = cluster.records;
     total(count, |_| {
         let last = medium::place_at(1000);
@@ -123,6 +124,18 @@ fn import(count: u64) -> u64 {
         let byte = medium[medium::place_at(1000) + 7];
         medium[medium::SLOTS_BYTES..].fill(0);
         u64::from(byte)
+    })
+}
+
+/// One issue of 28 bytes without locks, behind 500 records that are all acknowledged. What counts is the
+/// ID and the last byte of the newest record held.
+fn issue(count: u64) -> u64 {
+    let mut cluster = filled(500);
+    let ready = cluster.records;
+    total(count, |_| {
+        cluster.records = ready;
+        let id = stage::issue(&mut cluster);
+        id + u64::from(cluster.records.servers[0].held[HELD - 1][PLACE_BYTES - 1])
     })
 }
 

@@ -178,7 +178,9 @@ pub fn place(medium: &[u8], number: u64) -> PlaceBytes {
     medium[at..at + PLACE_BYTES].try_into().expect("a place")
 }
 
-/// The highest ID of the log, which is the run of valid places from place 1.
+/// The highest ID of the log, which is the run of valid places from place 1. It is a function of its own,
+/// so that its loop is compiled alike for every caller.
+#[inline(never)]
 pub fn mark(medium: &[u8]) -> u64 {
     mark_above(medium, 0)
 }

@@ -16,7 +16,7 @@
 //! | server | server, phase (0 idle, 1 opening, 2 open), session, generation, starting, issued and acknowledged mark | of the server's record |
 //! | handed | server, replica, ENTRY | what take handed over |
 //! | replica | server, replica, standing (0 out, 1 in, 2 dropped), recorded mark | of the server's record |
-//! | held | server, 64 BYTES | its issued record |
+//! | held | server, index (0 the oldest, to 7 the newest), 64 BYTES | a record that it holds |
 //! | given | 64 BYTES | what a torn write leaves |
 //! | data | BYTES | of the requests that follow |
 //! | locks | each of up to 8 | of the requests that follow |
@@ -40,6 +40,7 @@
 mod counts;
 mod export_scenes;
 mod exports;
+mod in_flight;
 mod list;
 mod locks;
 mod names;
@@ -53,7 +54,7 @@ mod texts;
 use crate::random::Random;
 
 pub use counts::{Counts, CALLS};
-pub use names::{ENDS, ESTIMATES, FATES, INTERVALS};
+pub use names::{ENDS, ESTIMATES, FATES, INTERVALS, UNSENT};
 
 /// The stored run: its lines, what they print, and what it meets.
 pub struct Run {

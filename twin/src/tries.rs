@@ -1,6 +1,6 @@
 //! Calls and states to try: lists of calls that get somewhere, scenes with faults, issue around the
-//! interval and around the client's mark, exports with files of any length, imports of pairs
-//! whole and spoilt, random states.
+//! interval and around the client's mark, send and issue around what is held, exports with files of
+//! any length, imports of pairs whole and spoilt, random states.
 
 pub mod caller;
 pub mod checkpoint;
@@ -9,6 +9,7 @@ pub mod exports;
 pub mod faults;
 pub mod import_rows;
 pub mod imports;
+pub mod in_flight;
 pub mod scene;
 pub mod states;
 pub mod useful;

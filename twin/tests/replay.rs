@@ -1,11 +1,11 @@
 //! The stored run of the replay program is what this implementation gives, and it meets every call,
-//! refusal, fate and kind of interval, locks on both sides of the client's mark, and every end of an
-//! exported log.
+//! refusal, fate and kind of interval, locks on both sides of the client's mark, every end of an
+//! exported log, and every number of records in flight.
 
 mod stored;
 
 use twin::cluster::{first_row, FILES_ROW, ORDER};
-use twin::replay::{self, CALLS, ENDS, ESTIMATES, FATES, INTERVALS};
+use twin::replay::{self, CALLS, ENDS, ESTIMATES, FATES, INTERVALS, UNSENT};
 
 /// Calls without a message, and those whose message goes to the register.
 const LOCAL: [&str; 3] = ["issue", "stop", "reassign"];
@@ -119,6 +119,20 @@ fn logs_are_exported_up_to_either_mark() {
     assert!(met.iter().all(|&count| count > 10), "{met:?}");
     assert_eq!(met.iter().sum::<u64>(), counts.ok("export"));
     assert!(counts.refused("export", FILES_ROW) > 20);
+}
+
+/// Each number in flight, each index of what is held, and each edge of what is held for itself.
+#[test]
+fn records_are_in_flight() {
+    let counts = replay::run().counts;
+    let (in_flight, sent) = (counts.in_flight(), counts.sent());
+    assert!(in_flight.iter().chain(&sent).all(|&count| count > 3), "{in_flight:?} {sent:?}");
+    assert_eq!(in_flight.iter().sum::<u64>(), counts.ok("issue"));
+    assert_eq!(sent.iter().sum::<u64>(), counts.ok("send") + counts.silent("send"));
+    let unsent = UNSENT.map(|name| counts.unsent(name));
+    assert!(unsent.iter().all(|&count| count > 5), "{unsent:?}");
+    assert_eq!(unsent.iter().sum::<u64>(), counts.refused("send", first_row(16)));
+    assert!(counts.refused("issue", first_row(13)) > 10);
 }
 
 #[test]

@@ -43,6 +43,42 @@ fn stored_input_asks_for_a_lock_on_both_sides_of_the_clients_mark() {
     assert_eq!(script::run(lines), replies);
 }
 
+/// Eight records in flight and no ninth until one is acknowledged, a member that is sent nothing any
+/// more and copied to, and a server that is overtaken with records in flight.
+#[test]
+fn stored_input_has_eight_in_flight() {
+    let opening =
+        ["cluster 3 12", "take 0 0", "prep 0 0 0", "prep 0 1 0", "prep 0 2 0", "open 0 0"];
+    let opened = ["ok", "ok 1", "ok 0", "ok 0", "ok 0", "ok 0"];
+    let issues = (1..=9).map(|byte| format!("issue 0 0 0 9 0{byte}"));
+    let issued = (1..=8).map(|id| format!("ok {id}")).chain(["no 13".to_string()]);
+    let rest = [
+        ("send 0 0 0", "ok 0"),
+        ("send 0 0 0", "ok 0"),
+        ("send 0 0 0", "ok 0"),
+        ("send 0 1 0", "ok 1"),
+        ("issue 0 1 0 9 09", "ok 9"),
+        ("issue 0 1 0 9 0A", "no 13"),
+        ("send 0 2 0", "no 16"),
+        ("copy 0 0 2 0", "ok 1"),
+        ("send 0 2 0", "ok 2"),
+        ("send 0 1 0", "ok 2"),
+        ("take 1 0", "ok 2"),
+        ("prep 1 0 0", "ok 3"),
+        ("prep 1 1 0", "ok 2"),
+        ("prep 1 2 0", "ok 2"),
+        ("open 1 0", "ok 2"),
+    ];
+    let strings = |texts: [&str; 6]| texts.map(String::from).to_vec();
+    let lines = [strings(opening), issues.collect(), rest.map(|it| it.0.to_string()).to_vec()];
+    let replies = [strings(opened), issued.collect(), rest.map(|it| it.1.to_string()).to_vec()];
+    let text = |lines: [Vec<String>; 3]| lines.concat().join("\n").replace(' ', "\t") + "\n";
+    let (lines, replies) = (text(lines), text(replies));
+    let stored = stored::bytes("crates/script/stdin");
+    assert!(stored.windows(lines.len()).any(|window| window == lines.as_bytes()));
+    assert_eq!(script::run(lines.as_bytes()), replies.as_bytes());
+}
+
 /// Bytes that the proved program reads at once, and that it prints at once.
 const READ: usize = 65_536;
 const PRINTED: usize = 65_536;

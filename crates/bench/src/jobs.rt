@@ -1,15 +1,17 @@
 // The jobs by their numbers: 0 the CRC of 64 KB, 1 the marks of seven full media, 2 the same by a scan with a product in its loop, 3 one
 // send of record 1,000 to a replica that holds 999, 4 one prepare that cuts a full log of 1,000 to 500, 5 one open over seven replicas
-// that all hold 1,000, 6 an export of 1,000 places, 7 an import of that pair into a wiped medium. Each sets a cluster up, and then makes
-// its turn as often as asked. A turn changes a byte that its result does not depend on, or undoes what the turn before did, which counts,
-// so that none can be saved.
+// that all hold 1,000, 6 an export of 1,000 places, 7 an import of that pair into a wiped medium, 8 one issue of record 501. Each sets a
+// cluster up, and then makes its turn as often as asked. A turn changes a byte that its result does not depend on, or undoes what the
+// turn before did, which counts, so that none can be saved; each issue starts from the same records.
 use crate::segments;
 use crate::stage;
 use crate::turns;
 use cluster::Call;
 use cluster::Closing;
 use cluster::Entry;
+use cluster::HELD;
 use cluster::Records;
+use cluster::Server;
 use cluster::put_server;
 use fate::Fate;
 use std::num::wrapping_add_u64;
@@ -40,6 +42,7 @@ fn closed(r: Records, m: &mut [u8], tables: &mut [u64]) -> Records {
 fn records(job: u64) -> u64 {
     match job {
         3 => 999,
+        8 => 500,
         _ => 1000,
     }
 }
@@ -49,6 +52,7 @@ fn ready(job: u64, r: Records, m: &mut [u8], tables: &mut [u64]) -> Records {
     match job {
         3 => stage::issued(r, m, tables),
         4 => closed(r, m, tables),
+        8 => r,
         _ => stage::prepared(r, m, tables, 1),
     }
 }
@@ -61,7 +65,21 @@ fn call(job: u64) -> Call {
     }
 }
 
+// The ID issued last, and the last byte of the newest record held.
+fn newest(s: Server) -> u64 {
+    let held = s.held;
+    wrapping_add_u64(s.issued, turns::byte(&held, HELD - 1))
+}
+
+fn issue(r: Records, m: &mut [u8], tables: &mut [u64]) -> u64 {
+    let next = stage::issued(r, m, tables);
+    newest(next.servers[0])
+}
+
 fn turn(job: u64, r: Records, full: &[u8], m: &mut [u8], tables: &mut [u64]) -> u64 {
+    if job == 8 {
+        return issue(r, m, tables);
+    }
     turns::undo(job, full, m);
     stage::value(stage::make(r, m, tables, call(job)))
 }
@@ -95,12 +113,12 @@ fn set_up(job: u64, m: &mut [u8], tables: &mut [u64]) {
 
 // What a job done so often comes to.
 pub fn total(job: u64, m: &mut [u8], tables: &mut [u64], count: u64) -> u64 {
-    if 5 < job {
-        return segments::total(job, m, tables, count);
+    match job {
+        0..=2 => {
+            set_up(job, m, tables);
+            reads(job, m, count)
+        }
+        6 | 7 => segments::total(job, m, tables, count),
+        _ => calls(job, m, tables, count),
     }
-    if 2 < job {
-        return calls(job, m, tables, count);
-    }
-    set_up(job, m, tables);
-    reads(job, m, count)
 }

@@ -28,13 +28,6 @@ const LAST_BYTE: usize = INDEX - 1;
 
 const ID_BYTE: usize = SLOTS + 999 * PLACE + LONG - 1;
 
-fn byte(s: &[u8], i: usize) -> u64 {
-    if s.len() <= i {
-        return 0;
-    }
-    s[i] as u64
-}
-
 // The time that is handed in differs from turn to turn.
 fn export(
     r: Records,
@@ -46,7 +39,7 @@ fn export(
 ) -> u64 {
     let call = Call::Export(0, 0, Fate::Answered);
     stage::make_with(r, m, tables, call, time, file, index);
-    wrapping_add_u64(byte(file, TIME_BYTE), byte(index, LAST_BYTE))
+    wrapping_add_u64(turns::byte(file, TIME_BYTE), turns::byte(index, LAST_BYTE))
 }
 
 fn exports(
@@ -74,7 +67,7 @@ fn import(m: &mut [u8], turn: u64, file: &[u8], index: &[u8]) -> u64 {
         key: [0; 16],
     };
     segment_import::import::import(1000, m, stamp, file, index);
-    let id = byte(m, ID_BYTE);
+    let id = turns::byte(m, ID_BYTE);
     turns::wipe_places(m);
     id
 }

@@ -66,6 +66,14 @@ fn marks(t: &Tables, m: &[u8], product: bool) -> u64
     seven_marks(t, m, product)
 }
 
+// Byte i, 0 where there is none.
+pub fn byte(s: &[u8], i: usize) -> u64 {
+    if s.len() <= i {
+        return 0;
+    }
+    s[i] as u64
+}
+
 // The byte that differs from turn to turn.
 pub fn mark_turn(m: &mut [u8], turn: u64) {
     if 0 < m.len() {

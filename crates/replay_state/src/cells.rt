@@ -7,19 +7,19 @@ ghost use lib.ListN.{length};
 pub const ENTRIES: usize = 2;
 
 // Of each server: phase, session, generation, starting, issued and acknowledged mark; the entries that take handed over; standing
-// and recorded mark of each replica; the issued record.
+// and recorded mark of each replica; the eight held records, oldest first, each eight numbers.
 pub const SERVERS: usize = 23;
 
-pub const SERVER: usize = 49;
+pub const SERVER: usize = 105;
 
 pub const HANDED: usize = 6;
 
 pub const REPLICAS: usize = 27;
 
-pub const ISSUED: usize = 41;
+pub const HELD: usize = 41;
 
 // How many numbers the records are.
-pub const RECORDS: usize = 219;
+pub const RECORDS: usize = 443;
 
 // R, N and K.
 pub const SHAPE: usize = RECORDS;
@@ -88,25 +88,35 @@ fn eight(b: &[u8], i: usize) -> u64 {
     octets::get_be(&b[i..e])
 }
 
-// 64 bytes are eight numbers.
-pub fn put_bytes(w: &mut Cells, k: usize, b: &[u8; 64])
+// Every eight bytes of b are a number, from k on.
+pub fn put_eights(w: &mut Cells, k: usize, b: &[u8])
     requires { ⌜ k ≤ 500 ⌝ }
 {
     let mut i = 0;
-    while i < 8 {
+    while i < b.len() / 8 {
         put(w, k + i, eight(b, 8 * i));
         i += 1;
     }
 }
 
-pub fn bytes(w: &[u64], k: usize) -> [u8; 64]
-    requires { ⌜ k ≤ 500 ⌝ }
-{
-    let mut b = [0u8; 64];
+// Every eight bytes of b become those of a number, from the first on; 0 where there are fewer.
+pub fn fill(b: &mut [u8], numbers: &[u64]) {
     let mut i = 0;
-    while i < 8 {
-        octets::put_be(&mut b, 8 * i, 8, at(w, k + i));
+    while i < b.len() / 8 {
+        octets::put_be(b, 8 * i, 8, at(numbers, i));
         i += 1;
     }
+}
+
+// 64 bytes are eight numbers.
+pub fn put_bytes(w: &mut Cells, k: usize, b: &[u8; 64])
+    requires { ⌜ k ≤ 500 ⌝ }
+{
+    put_eights(w, k, b);
+}
+
+pub fn bytes(w: &[u64], k: usize) -> [u8; 64] {
+    let mut b = [0u8; 64];
+    fill(&mut b, from(w, k));
     b
 }

@@ -4,12 +4,13 @@ use crate::cells;
 use crate::cells::Cells;
 use crate::cells::ENTRIES;
 use crate::cells::HANDED;
-use crate::cells::ISSUED;
+use crate::cells::HELD;
 use crate::cells::REPLICAS;
 use crate::cells::SERVER;
 use crate::cells::SERVERS;
 use cluster::Closing;
 use cluster::Entry;
+use cluster::Held;
 use cluster::Phase;
 use cluster::Records;
 use cluster::Register;
@@ -82,6 +83,13 @@ fn word(v: u64) -> u32 {
     (v % 4294967296) as u32
 }
 
+// The eight held records, oldest first.
+fn held(w: &[u64]) -> Held {
+    let mut b = [0u8; cluster::HELD];
+    cells::fill(&mut b, cells::from(w, HELD));
+    b
+}
+
 // A server's, from its first number on.
 fn server(w: &[u64]) -> Server {
     Server {
@@ -95,7 +103,7 @@ fn server(w: &[u64]) -> Server {
         start: cells::at(w, 3),
         issued: cells::at(w, 4),
         acked: cells::at(w, 5),
-        held: cells::bytes(w, ISSUED),
+        held: held(w),
     }
 }
 
@@ -133,7 +141,7 @@ fn entry_numbers(e: Entry) -> [u64; 3] {
 }
 
 fn put_entries(w: &mut Cells, k: usize, entries: [Entry; 7])
-    requires { ⌜ k ≤ 300 ⌝ }
+    requires { ⌜ k ≤ 450 ⌝ }
 {
     let mut i = 0;
     while i < 7 {
@@ -153,7 +161,7 @@ fn standing(known: bool, dropped: bool) -> u64 {
 }
 
 fn put_replicas(w: &mut Cells, k: usize, v: Server)
-    requires { ⌜ k ≤ 300 ⌝ }
+    requires { ⌜ k ≤ 450 ⌝ }
 {
     let mut i = 0;
     while i < 7 {
@@ -172,7 +180,7 @@ fn phase_number(p: Phase) -> u64 {
 }
 
 fn put_numbers(w: &mut Cells, k: usize, v: Server)
-    requires { ⌜ k ≤ 300 ⌝ }
+    requires { ⌜ k ≤ 450 ⌝ }
 {
     let p = v.phase;
     let n = [
@@ -187,14 +195,14 @@ fn put_numbers(w: &mut Cells, k: usize, v: Server)
 }
 
 fn put_server(w: &mut Cells, k: usize, v: Server)
-    requires { ⌜ k ≤ 200 ⌝ }
+    requires { ⌜ k ≤ 400 ⌝ }
 {
     let entries = v.entries;
-    let issued = v.held;
+    let held = v.held;
     put_numbers(w, k, v);
     put_entries(w, k + HANDED, entries);
     put_replicas(w, k + REPLICAS, v);
-    cells::put_bytes(w, k + ISSUED, &issued);
+    cells::put_eights(w, k + HELD, &held);
 }
 
 fn put_servers(w: &mut Cells, servers: [Server; 4]) {

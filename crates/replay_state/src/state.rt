@@ -8,7 +8,7 @@ use crate::cells::DATA;
 use crate::cells::ENTRIES;
 use crate::cells::GIVEN;
 use crate::cells::HANDED;
-use crate::cells::ISSUED;
+use crate::cells::HELD;
 use crate::cells::LOCKS;
 use crate::cells::REPLICAS;
 use crate::cells::SERVER;
@@ -19,11 +19,11 @@ use crate::fields;
 use run_lines::hex;
 use text::line;
 
-// The number of a server or replica that field k is; as many as all numbers are where there is none, so that what is counted from
-// there lies behind them.
+// The number of a server, replica or held record that field k is; as many as all numbers are where there is none, so that what is
+// counted from there lies behind them.
 fn index(line: &[u8], k: usize, limit: u64) -> usize
-    requires { ⌜ limit ≤ 7 ⌝ }
-    ensures { λ r. ⌜ r ≤ 250 ⌝ }
+    requires { ⌜ limit ≤ 8 ⌝ }
+    ensures { λ r. ⌜ r ≤ 500 ⌝ }
 {
     let v = fields::at(line, k);
     if v < limit {
@@ -34,7 +34,7 @@ fn index(line: &[u8], k: usize, limit: u64) -> usize
 
 // Where the record of the server that field 1 names begins.
 fn server(line: &[u8]) -> usize
-    ensures { λ r. ⌜ r ≤ 12273 ⌝ }
+    ensures { λ r. ⌜ r ≤ 52523 ⌝ }
 {
     SERVERS + SERVER * index(line, 1, 4)
 }
@@ -48,7 +48,7 @@ fn place(line: &[u8], kind: u64) -> usize {
         14 => server(line),
         15 => server(line) + HANDED + 3 * index(line, 2, 7),
         16 => server(line) + REPLICAS + 2 * index(line, 2, 7),
-        19 => server(line) + ISSUED,
+        19 => server(line) + HELD + 8 * index(line, 2, 8),
         _ => GIVEN,
     }
 }
@@ -58,8 +58,8 @@ fn first(kind: u64) -> usize
     ensures { λ r. ⌜ r ≤ 3 ⌝ }
 {
     match kind {
-        13 | 14 | 19 => 2,
-        15 | 16 => 3,
+        13 | 14 => 2,
+        15 | 16 | 19 => 3,
         _ => 1,
     }
 }
@@ -131,7 +131,7 @@ fn bytes(s: &[u8], w: &mut Cells, k: usize) -> bool {
     true
 }
 
-// held, server, 64 BYTES: its issued record. given, 64 BYTES.
+// held, server, index (0 the oldest to 7 the newest), 64 BYTES: a record that it holds. given, 64 BYTES.
 fn whole(line: &[u8], kind: u64, w: &mut Cells) -> bool {
     let s = line::field(line, first(kind));
     if s.len() != 128 {

@@ -1,6 +1,6 @@
 //! issue: gives a request the next ID.
 
-use super::{Answer, Cluster, Phase, Refusal, Reply, Request};
+use super::{Answer, Cluster, Phase, Refusal, Reply, Request, HELD};
 use crate::locks::{first_conflict, write_locks};
 use crate::medium::{Record, DATA_LIMIT};
 
@@ -8,7 +8,7 @@ use crate::medium::{Record, DATA_LIMIT};
 const LOCK_LIMIT: usize = 4;
 
 impl Cluster {
-    /// Makes the request the issued record and writes its ID at its locks; answers the ID.
+    /// Makes the request the newest record held and writes its ID at its locks; answers the ID.
     pub fn issue(&mut self, server: u64, request: &Request) -> Reply {
         let server = self.check_server(server)?;
         self.check_phase(server, &[Phase::Open])?;
@@ -16,7 +16,7 @@ impl Cluster {
         let record = &mut self.records.servers[server];
         let id = record.issued + 1;
         record.issued = id;
-        record.record = Record {
+        let issued = Record {
             id,
             client: request.client,
             generation: request.generation,
@@ -24,8 +24,8 @@ impl Cluster {
             sequence: request.sequence,
             header: request.header,
             data: &request.data,
-        }
-        .encode();
+        };
+        record.hold(issued.encode());
         write_locks(self.table_mut(server), &request.locks, id);
         Ok(Answer::Number(id))
     }
@@ -37,7 +37,7 @@ impl Cluster {
         Refusal::ClientAhead.when(request.client_mark > record.acknowledged)?;
         let too_much = request.data.len() > DATA_LIMIT || request.locks.len() > LOCK_LIMIT;
         Refusal::TooMuch.when(too_much)?;
-        Refusal::Unacknowledged.when(record.acknowledged < record.issued)?;
+        Refusal::Unacknowledged.when(record.unacknowledged() >= HELD as u64)?;
         Refusal::Full.when(record.issued == self.shape.places)?;
         Refusal::CheckpointDue.when(self.is_checkpoint_due(server))?;
         match first_conflict(self.table(server), &request.locks, request.client_mark) {

@@ -48,14 +48,15 @@ impl Cluster {
         self.instruct(server, replica, Operation::Truncate(mark), message)
     }
 
-    /// Writes the issued record behind the mark of a member; answers the acknowledged mark.
+    /// "send delivers the one that follows the replica's mark, if it is still held", as it is held;
+    /// answers the acknowledged mark.
     pub fn send(&mut self, server: u64, replica: u64, message: &Message) -> Reply {
         let (server, replica) = self.check_addressed(server, replica, Phase::Open)?;
         self.check_message(message)?;
         self.check_standing(server, replica)?;
         let record = &self.records.servers[server];
-        Refusal::NothingToDo.when(record.marks[replica] + 1 != record.issued)?;
-        self.append(server, replica, record.record, message)
+        let next = *record.held_record(record.marks[replica] + 1).ok_or(Refusal::NothingToDo)?;
+        self.append(server, replica, next, message)
     }
 
     /// Stores the starting mark and the member's own as low-water marks; answers the member's mark.

@@ -38,6 +38,7 @@ pub enum Refusal {
     ClientAhead,
     /// Data or locks.
     TooMuch,
+    /// Eight or more records.
     Unacknowledged,
     Full,
     /// The session has issued as many records as the interval allows.

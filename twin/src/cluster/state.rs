@@ -6,6 +6,10 @@ use crate::votes::{quorum, MOST_REPLICAS};
 
 pub const SERVERS: usize = 4;
 
+/// How many records a server holds: "the last eight records that its session issued" (document 02,
+/// No. 5).
+pub const HELD: usize = 8;
+
 /// R, N and K, which each call gets.
 #[derive(Clone, Copy, Debug, PartialEq, Eq)]
 pub struct Shape {
@@ -81,8 +85,31 @@ pub struct Server {
     pub starting: u64,
     pub issued: u64,
     pub acknowledged: u64,
-    /// The issued record.
-    pub record: PlaceBytes,
+    /// The last records that its session issued, "in order": the oldest first, the newest always last.
+    /// So the record of ID n lies at index 7 − (issued − n).
+    pub held: [PlaceBytes; HELD],
+}
+
+impl Server {
+    /// The record of this ID, if it is held: "Held are the IDs above the starting mark and above
+    /// issued − 8, up to issued."
+    pub fn held_record(&self, id: u64) -> Option<&PlaceBytes> {
+        let behind = self.issued.checked_sub(id)?;
+        let is_held = id > self.starting && behind < HELD as u64;
+        is_held.then(|| &self.held[HELD - 1 - behind as usize])
+    }
+
+    /// Holds the record as the newest; the oldest is dropped.
+    pub(super) fn hold(&mut self, record: PlaceBytes) {
+        self.held.copy_within(1.., 0);
+        self.held[HELD - 1] = record;
+    }
+
+    /// How many of the issued records are not acknowledged yet; none if more is acknowledged than
+    /// issued, as may be handed in.
+    pub fn unacknowledged(&self) -> u64 {
+        self.issued.saturating_sub(self.acknowledged)
+    }
 }
 
 impl Default for Server {
@@ -97,7 +124,7 @@ impl Default for Server {
             starting: 0,
             issued: 0,
             acknowledged: 0,
-            record: WIPED,
+            held: [WIPED; HELD],
         }
     }
 }

@@ -5,7 +5,7 @@ use std::iter::repeat_with;
 use std::sync::OnceLock;
 
 use super::line::Line;
-use crate::cluster::{Cluster, Phase, Server, Standing};
+use crate::cluster::{Cluster, Phase, Server, Standing, HELD};
 use crate::hex;
 use crate::locks::lock_places;
 use crate::random::Random;
@@ -23,6 +23,10 @@ pub struct Caller {
     handover: u64,
     /// One call in this many is any call, whatever the state.
     wander: u64,
+    /// Records are issued until so many are in flight.
+    in_flight: u64,
+    /// One send in this many goes to any member that may have it, the others to the first.
+    fairness: u64,
 }
 
 impl Caller {
@@ -31,6 +35,8 @@ impl Caller {
             trouble: *random.pick(&[3, 8, 25, 100]),
             handover: *random.pick(&[2, 6, 25, 120]),
             wander: *random.pick(&[5, 15, 60]),
+            in_flight: *random.pick(&[1, 1, 3, 9, 9]),
+            fairness: *random.pick(&[1, 4, 25]),
         }
     }
 
@@ -60,11 +66,13 @@ impl Caller {
         }
     }
 
-    /// Mostly opens if that would be granted, otherwise learns of one more replica or lifts one.
+    /// Mostly opens if that would be granted, otherwise learns of one more replica or lifts one. Where
+    /// a member is to fall behind, all are waited for.
     fn towards_open(&self, random: &mut Random, cluster: &Cluster, server: u64) -> Line {
         let others = unknown(cluster, server);
         let ready = would_open(cluster, server);
-        if ready != random.chance(8) {
+        let waits = self.fairness > 4 && !is_level(cluster, server) && !random.chance(6);
+        if !(ready && waits) && ready != random.chance(8) {
             return Line::new("open").number(server).fate(self.fate(random));
         }
         if !others.is_empty() && (ready || random.chance(2)) {
@@ -75,22 +83,35 @@ impl Caller {
             .unwrap_or_else(|| self.prepare(random, cluster, server))
     }
 
-    /// Issues once the last record is acknowledged, otherwise brings it to one more member.
+    /// Issues while others are in flight, up to some number, or brings a record to one more member: by a
+    /// send if it is held, otherwise by a copy.
     fn towards_acknowledged(&self, random: &mut Random, cluster: &Cluster, server: u64) -> Line {
         let held = record(cluster, server);
-        let idle = held.acknowledged == held.issued;
-        if idle && !random.chance(4) {
+        let in_flight = held.unacknowledged();
+        let rate = if in_flight == 0 { 4 * self.fairness } else { 3 };
+        if in_flight < self.in_flight && !random.chance(rate) {
             return issue(random, cluster, server);
         }
         let behind: Vec<u64> = members(cluster, server)
             .into_iter()
-            .filter(|&i| held.marks[i as usize] + 1 == held.issued)
+            .filter(|&i| held.held_record(held.marks[i as usize] + 1).is_some())
             .collect();
         if !behind.is_empty() && !random.chance(10) {
-            let replica = *random.pick(&behind);
-            return Line::new("send").number(server).number(replica).fate(self.fate(random));
+            let fair = random.chance(self.fairness);
+            let replica = if fair { *random.pick(&behind) } else { behind[0] };
+            return self.send(random, server, replica);
         }
-        self.copy_up(random, cluster, server).unwrap_or_else(|| self.any_call(random, cluster))
+        let outrun = |&i: &u64| held.issued > held.marks[i as usize] + HELD as u64;
+        match members(cluster, server).into_iter().find(outrun) {
+            Some(replica) if random.chance(3) => self.send(random, server, replica),
+            _ => self
+                .copy_up(random, cluster, server)
+                .unwrap_or_else(|| self.any_call(random, cluster)),
+        }
+    }
+
+    fn send(&self, random: &mut Random, server: u64, replica: u64) -> Line {
+        Line::new("send").number(server).number(replica).fate(self.fate(random))
     }
 
     /// A copy from a replica in use to one that holds less, if there are two such.
@@ -143,17 +164,19 @@ impl Caller {
 pub fn issue_line(random: &mut Random, cluster: &Cluster) -> Line {
     let could = |server: &u64| {
         let held = record(cluster, *server);
-        held.phase == Phase::Open && held.acknowledged == held.issued
+        held.phase == Phase::Open && held.unacknowledged() < HELD as u64
     };
     let server = (0..4).find(could).unwrap_or(random.below(4));
     issue(random, cluster, server)
 }
 
-/// Mostly what only locks can refuse. A server that is not there is asked what another would be.
+/// Mostly what only locks can refuse; nobody has read what is in flight, so that then most ask for none.
+/// A server that is not there is asked what another would be.
 fn issue(random: &mut Random, cluster: &Cluster, server: u64) -> Line {
     let there = server.min(3);
     let held = record(cluster, there);
-    let locks = draw_locks(random);
+    let calm = held.unacknowledged() == 0;
+    let locks = if calm || random.chance(2) { draw_locks(random) } else { Vec::new() };
     let around = draw_mark(random, cluster, there, &locks);
     let client_mark = if random.chance(30) { held.acknowledged + 1 } else { around };
     let generation = held.generation + u32::from(random.chance(30));
@@ -222,6 +245,12 @@ fn is_spent(cluster: &Cluster, server: u64) -> bool {
     let full = held.acknowledged == cluster.shape.places;
     let few = members(cluster, server).len() < quorum(cluster.shape.replicas as usize);
     held.phase == Phase::Open && (full || few)
+}
+
+/// Whether an opening server knows all replicas, at one mark.
+fn is_level(cluster: &Cluster, server: u64) -> bool {
+    let marks = &record(cluster, server).marks[..cluster.shape.replicas as usize];
+    unknown(cluster, server).is_empty() && marks.iter().all(|&mark| mark == marks[0])
 }
 
 /// Whether an opening server has decided a mark and a quorum stands exactly at it.

@@ -31,9 +31,9 @@ pub fn prepare_all(cluster: &mut Cluster, server: u64) {
     }
 }
 
-/// Server 0 issues the next record: 28 bytes of data and no lock. Data differ from record to record,
-/// so that no scan profits from zeros.
-pub fn issue(cluster: &mut Cluster) {
+/// Server 0 issues the next record: 28 bytes of data and no lock; its ID. Data differ from record to
+/// record, so that no scan profits from zeros.
+pub fn issue(cluster: &mut Cluster) -> u64 {
     let first = cluster.records.servers[0].issued as u8;
     let request = Request {
         client: 1,
@@ -43,7 +43,7 @@ pub fn issue(cluster: &mut Cluster) {
         data: (0..28).map(|byte| first.wrapping_add(byte)).collect(),
         ..Request::default()
     };
-    make(cluster, Call::Issue { server: 0, request });
+    make(cluster, Call::Issue { server: 0, request })
 }
 
 /// Server 0 has opened the first session and stored so many records on every replica.

@@ -1,13 +1,14 @@
-//! What a run meets: replies of each call, fates, intervals, locks around the client's mark, and ends of
-//! exported logs.
+//! What a run meets: replies of each call, fates, intervals, locks around the client's mark, ends of
+//! exported logs, and records in flight.
 
 use std::collections::BTreeMap;
 use std::fmt;
 
 use super::names::{end_name, estimate_name, fate_name, fate_of, interval_name};
-use super::names::{ENDS, ESTIMATES, FATES, INTERVALS};
+use super::names::{in_flight, sent_index, unsent_name};
+use super::names::{ENDS, ESTIMATES, FATES, INTERVALS, UNSENT};
 use super::texts::word;
-use crate::cluster::{Answer, Call, Cluster, Refusal, Reply, ORDER};
+use crate::cluster::{Answer, Call, Cluster, Refusal, Reply, HELD, ORDER};
 
 pub const CALLS: [&str; 12] = [
     "take", "prepare", "copy", "trim", "open", "issue", "send", "note", "read", "export", "stop",
@@ -29,6 +30,12 @@ pub struct Counts {
     estimates: BTreeMap<&'static str, u64>,
     /// Segments that were written.
     ends: BTreeMap<&'static str, u64>,
+    /// Requests granted, by how many records were in flight.
+    in_flight: [u64; HELD],
+    /// Sends that were not declined, by the index of the record.
+    sent: [u64; HELD],
+    /// Sends without a record.
+    unsent: BTreeMap<&'static str, u64>,
     /// Whether issue was declined with 23 since the last state was handed in or session opened.
     due: bool,
     /// Sessions opened after that.
@@ -56,6 +63,15 @@ impl Counts {
         }
         if let Some(name) = end_name(cluster, call, reply) {
             *self.ends.entry(name).or_default() += 1;
+        }
+        if let Some(count) = in_flight(cluster, call, reply) {
+            self.in_flight[count] += 1;
+        }
+        if let Some(index) = sent_index(cluster, call, reply) {
+            self.sent[index] += 1;
+        }
+        if let Some(name) = unsent_name(cluster, call, reply) {
+            *self.unsent.entry(name).or_default() += 1;
         }
         self.add_change(call, reply);
     }
@@ -122,6 +138,21 @@ impl Counts {
         self.ends.get(name).copied().unwrap_or(0)
     }
 
+    /// How many requests were granted with each number of records in flight.
+    pub fn in_flight(&self) -> [u64; HELD] {
+        self.in_flight
+    }
+
+    /// How many sends had the record at each index.
+    pub fn sent(&self) -> [u64; HELD] {
+        self.sent
+    }
+
+    /// How many sends had none for such a reason.
+    pub fn unsent(&self, name: &str) -> u64 {
+        self.unsent.get(name).copied().unwrap_or(0)
+    }
+
     /// How many sessions were opened on a cluster where issue had been declined with 23 since the
     /// one before.
     pub fn forced(&self) -> u64 {
@@ -134,7 +165,8 @@ impl Counts {
 }
 
 /// A table of replies by call, in which 1 stands once more behind 20 (the lengths of export's files); one
-/// of fates and one of K by call, one of estimates, one of ends, and the writes that were cut.
+/// of fates and one of K by call, one of estimates, one of ends, what was in flight and held, and the
+/// writes that were cut.
 impl fmt::Display for Counts {
     fn fmt(&self, f: &mut fmt::Formatter<'_>) -> fmt::Result {
         write!(f, "{:9}{:>6}{:>7}", "call", "ok", "silent")?;
@@ -154,7 +186,13 @@ impl fmt::Display for Counts {
         ENDS.iter().try_for_each(|name| write!(f, "{name:>13}"))?;
         write!(f, "\n{:9}", "export")?;
         ENDS.iter().try_for_each(|name| write!(f, "{:>13}", self.end(name)))?;
+        write!(f, "\n\n{:9}", "unsent")?;
+        UNSENT.iter().try_for_each(|name| write!(f, "{name:>12}"))?;
+        write!(f, "\n{:9}", "send")?;
+        UNSENT.iter().try_for_each(|name| write!(f, "{:>12}", self.unsent(name)))?;
         writeln!(f)?;
+        write!(f, "\nissued with 0 to 7 in flight {:?}", self.in_flight)?;
+        write!(f, "\nsent from index 0 to 7 {:?}", self.sent)?;
         let cuts = &mut FATES[3..].iter();
         cuts.try_for_each(|fate| write!(f, "\n{fate} at writes {:?}", self.writes(fate)))?;
         write!(f, "\n{} sessions opened after number 23", self.forced())?;

@@ -1,11 +1,13 @@
 //! The list of states and calls of a run.
 
 use super::recorder::Recorder;
-use super::{exports, locks, random_states, scenes, Run};
+use super::{exports, in_flight, locks, random_states, scenes, Run};
 use crate::cluster::{Call, Cluster, Shape};
 use crate::fate::Fate;
+use crate::hex;
 use crate::random::Random;
 use crate::tries::caller::Caller;
+use crate::tries::scene::record_bytes;
 use crate::tries::useful;
 
 /// R, N and K of the fresh clusters.
@@ -17,16 +19,15 @@ const SHAPES: [(u64, u64, u64); 12] = [
     (3, 14, 1),
     (7, 3, 3),
     (5, 6, 2),
-    (7, 8, 1),
-    (3, 8, 8),
-    (5, 12, 2),
-    (7, 14, 3),
-    (1, 14, 1),
+    (1, 14, 2),
+    (3, 14, 14),
+    (3, 13, 9),
+    (5, 12, 12),
+    (7, 14, 10),
 ];
 
-/// Lists of calls from a fresh cluster of each shape, and calls of each list.
+/// Lists of calls from a fresh cluster of each shape.
 const LISTS: u64 = 3;
-const CALLS: u64 = 110;
 
 pub fn replay(random: &mut Random) -> Run {
     let mut recorder = Recorder::new();
@@ -34,7 +35,9 @@ pub fn replay(random: &mut Random) -> Run {
     any_interval(&mut recorder);
     locks::list(&mut recorder);
     exports::list(&mut recorder);
+    in_flight::list(&mut recorder);
     scenes::replay(&mut recorder, random);
+    in_flight::replay(&mut recorder);
     for (replicas, places, interval) in (0..LISTS).flat_map(|_| SHAPES) {
         list(&mut recorder, random, Shape { replicas, places, interval });
     }
@@ -78,6 +81,20 @@ fn bad_lines(recorder: &mut Recorder) {
         "export\t0\t0\t3\t1\t3\t7\t128\t128\t00112233445566778899AABBCCDDEEFF",
     ];
     lines.iter().for_each(|line| recorder.bad(line));
+    bad_held_lines(recorder);
+    recorder.call(&Call::Reassign).expect_err("still no shape");
+}
+
+/// Held records at no index, or of another length.
+fn bad_held_lines(recorder: &mut Recorder) {
+    let record = hex::encode(&record_bytes(1));
+    for numbers in ["0\t8", "0\t18446744073709551615", "0\t18446744073709551616", "4\t7", "0"] {
+        recorder.bad(&format!("held\t{numbers}\t{record}"));
+    }
+    for bytes in [&record[2..], &record[1..], &format!("{record}00")] {
+        recorder.bad(&format!("held\t0\t7\t{bytes}"));
+    }
+    recorder.bad(&format!("held\t0\t7\t{record}\t0"));
 }
 
 /// Fresh clusters with a K that the calls decline, until another is handed in.
@@ -93,11 +110,12 @@ fn any_interval(recorder: &mut Recorder) {
     }
 }
 
-/// Calls that get somewhere, from a fresh cluster.
+/// Calls that get somewhere, from a fresh cluster; fewer where the log is soon full.
 fn list(recorder: &mut Recorder, random: &mut Random, shape: Shape) {
     recorder.fresh(shape);
     let caller = Caller::new(random);
-    for _ in 0..CALLS {
+    let calls = if shape.places < 5 { 70 } else { 130 };
+    for _ in 0..calls {
         let call = useful::next_call(random, &caller, recorder.cluster());
         let _ = recorder.call(&call);
     }

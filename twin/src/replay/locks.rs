@@ -41,7 +41,7 @@ fn open(recorder: &mut Recorder, server: u64) {
     }
 }
 
-/// The issued record is sent to replicas 0 and 1.
+/// The record just issued is sent to replicas 0 and 1.
 fn store(recorder: &mut Recorder, server: u64) {
     for replica in 0..2 {
         let send = Call::Send { server, replica, message: Message::new(Fate::Answered) };

@@ -1,9 +1,9 @@
 //! What a call is counted as: its fate, K beside N, its locks beside the client's mark, the end of what it
-//! exports.
+//! exports, records in flight, which held record it sends or why none.
 
 use std::cmp::Ordering;
 
-use crate::cluster::{Answer, Call, Cluster, Refusal, Reply, Shape};
+use crate::cluster::{Answer, Call, Cluster, Refusal, Reply, Shape, HELD};
 use crate::fate::{Fate, Left};
 use crate::tries::clients::needed_mark;
 
@@ -18,6 +18,10 @@ pub const ESTIMATES: [&str; 5] = ["below", "1 below", "at", "1 above", "above"];
 
 /// What ends an exported log: the acknowledged mark, both marks or the member's own, or there is none.
 pub const ENDS: [&str; 4] = ["empty", "acknowledged", "both", "own"];
+
+/// Why nothing that is held follows a member's mark: the next ID is not above the starting mark, or it is
+/// issued − 8 or less, or above issued; or more than one of these.
+pub const UNSENT: [&str; 4] = ["starting", "too old", "not issued", "several"];
 
 pub fn fate_of(call: &Call) -> Option<Fate> {
     match call {
@@ -88,5 +92,38 @@ pub fn end_name(cluster: &Cluster, call: &Call, reply: &Reply) -> Option<&'stati
         Ordering::Less => "own",
         Ordering::Equal => "both",
         Ordering::Greater => "acknowledged",
+    })
+}
+
+/// How many records were in flight when one more was issued.
+pub fn in_flight(cluster: &Cluster, call: &Call, reply: &Reply) -> Option<usize> {
+    let (Call::Issue { server, .. }, Ok(_)) = (call, reply) else {
+        return None;
+    };
+    Some(cluster.records.servers[*server as usize].unacknowledged() as usize)
+}
+
+/// The index of the record that a send had for the replica.
+pub fn sent_index(cluster: &Cluster, call: &Call, reply: &Reply) -> Option<usize> {
+    let (Call::Send { server, replica, .. }, Ok(_)) = (call, reply) else {
+        return None;
+    };
+    let record = &cluster.records.servers[*server as usize];
+    Some(HELD - (record.issued - record.marks[*replica as usize]) as usize)
+}
+
+/// `None` unless a send had none.
+pub fn unsent_name(cluster: &Cluster, call: &Call, reply: &Reply) -> Option<&'static str> {
+    let (Call::Send { server, replica, .. }, Err(Refusal::NothingToDo)) = (call, reply) else {
+        return None;
+    };
+    let record = &cluster.records.servers[*server as usize];
+    let next = record.marks[*replica as usize] + 1;
+    let too_old = next + HELD as u64 <= record.issued;
+    Some(match [next <= record.starting, too_old, next > record.issued] {
+        [true, false, false] => "starting",
+        [false, true, false] => "too old",
+        [false, false, true] => "not issued",
+        _ => "several",
     })
 }

@@ -1,7 +1,7 @@
 //! Random states that are handed in.
 
 use super::recorder::Recorder;
-use crate::cluster::{Cluster, Phase, Records, Shape};
+use crate::cluster::{Cluster, Phase, Records, Shape, HELD};
 use crate::medium;
 use crate::random::Random;
 use crate::tries::caller::Caller;
@@ -9,14 +9,13 @@ use crate::tries::scene::{record_bytes, SERVER};
 use crate::tries::states::Draw;
 use crate::tries::useful;
 
-/// Random states that are handed in, and calls made on each.
-const STATES: u64 = 60;
+/// Random states that are handed in, by N, and calls made on each.
+const STATES: [(u64, u64); 3] = [(3, 24), (5, 20), (12, 6)];
 const CALLS_ON_STATE: u64 = 12;
 
 /// Calls on random states.
 pub fn replay(recorder: &mut Recorder, random: &mut Random) {
-    for state in 0..STATES {
-        let places = if state < STATES / 2 { 3 } else { 5 };
+    for places in STATES.into_iter().flat_map(|(places, count)| (0..count).map(move |_| places)) {
         let mut cluster = Draw { random, places }.cluster();
         agree(random, &mut cluster);
         corners(random, &mut cluster);
@@ -50,8 +49,13 @@ fn agree(random: &mut Random, cluster: &mut Cluster) {
         server.session = medium::current(medium).map_or(server.session, |(_, slot)| slot.promise);
     }
     if random.chance(2) {
-        server.issued = (server.marks[0] + 1).min(places);
-        server.record = record_bytes(server.issued);
+        // What follows replica 0's mark is held, unless it is just below or above all that is.
+        let next = server.marks[0] + 1;
+        let issued = next + random.below(HELD as u64 + 2);
+        (server.starting, server.issued) = (random.below(next + 1), (issued - 1).min(places));
+        if let Some(behind) = server.issued.checked_sub(next).filter(|&it| it < HELD as u64) {
+            server.held[HELD - 1 - behind as usize] = record_bytes(next);
+        }
     }
     if random.chance(2) {
         cluster.records.register.session = server.session;
@@ -68,7 +72,8 @@ fn corners(random: &mut Random, cluster: &mut Cluster) {
         cluster.media[at] ^= 1 << random.below(8);
     }
     if random.chance(4) {
-        cluster.records.servers[random.below(4) as usize].record[40] ^= 1;
+        let server = &mut cluster.records.servers[random.below(4) as usize];
+        server.held[random.below(HELD as u64) as usize][40] ^= 1;
     }
     if random.chance(4) {
         cluster.locks.fill(u64::MAX);

@@ -42,8 +42,10 @@ fn server_lines(number: u64, old: &Server, new: &Server) -> Vec<String> {
             lines.push(line("replica", &fields));
         }
     }
-    if old.record != new.record {
-        lines.push(format!("held\t{number}\t{}", hex::encode(&new.record)));
+    for (index, (old, new)) in old.held.iter().zip(&new.held).enumerate() {
+        if old != new {
+            lines.push(format!("held\t{number}\t{index}\t{}", hex::encode(new)));
+        }
     }
     lines
 }

@@ -29,14 +29,14 @@ fn record_bytes(records: &Records) -> Vec<u8> {
     bytes
 }
 
-/// The 64 bytes of the issued record stand behind the numbers as they are.
+/// The 64 bytes of each held record, the oldest first, stand behind the numbers as they are.
 fn put_server(bytes: &mut Vec<u8>, server: &Server) {
     put(bytes, &server_numbers(server));
     server.entries.iter().for_each(|entry| put(bytes, &entry_numbers(entry)));
     for (standing, mark) in server.standings.iter().zip(server.marks) {
         put(bytes, &[standing_number(*standing), mark]);
     }
-    bytes.extend_from_slice(&server.record);
+    server.held.iter().for_each(|record| bytes.extend_from_slice(record));
 }
 
 fn put(bytes: &mut Vec<u8>, numbers: &[u64]) {

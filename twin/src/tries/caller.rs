@@ -12,11 +12,27 @@ pub struct Caller {
     servers: u64,
     /// One message in this many is not answered.
     trouble: u64,
+    /// Records are issued until so many are in flight.
+    pub in_flight: u64,
+    /// One send in this many goes to any member that may have it, the others to the first.
+    pub fairness: u64,
+    /// So many members are mostly waited for, if there are as many replicas.
+    pub members: usize,
+    /// A server ends in one call of this many while several records stand on a minority, and later
+    /// otherwise.
+    pub patience: u64,
 }
 
 impl Caller {
     pub fn new(random: &mut Random) -> Caller {
-        Caller { servers: 1 + random.below(4), trouble: *random.pick(&[3, 6, 12, 30]) }
+        Caller {
+            servers: 1 + random.below(4),
+            trouble: *random.pick(&[3, 6, 12, 30, 300, 300]),
+            in_flight: *random.pick(&[1, 3, 6, 9, 9]),
+            fairness: *random.pick(&[1, 3, 30, 30]),
+            members: *random.pick(&[1, 3, 7, 7]),
+            patience: *random.pick(&[8, 20, 100, 100]),
+        }
     }
 
     pub fn next_call(&self, random: &mut Random, cluster: &Cluster) -> Call {

@@ -199,10 +199,8 @@ fn requests() -> Vec<Fault> {
         fault(11, "client ahead", &[Issue], |scene| scene.request().client_mark = PLACES + 1),
         fault(12, "29 bytes", &[Issue], |scene| scene.request().data.push(0)),
         fault(12, "five locks", &[Issue], |scene| scene.request().locks.push(9)),
-        fault(13, "unacknowledged", &[Issue], |scene| {
-            let server = &mut scene.cluster.records.servers[SERVER];
-            server.acknowledged = server.issued - 1;
-        }),
+        fault(13, "eight unacknowledged", &[Issue], |scene| unacknowledged(scene, 8)),
+        fault(13, "nine unacknowledged", &[Issue], |scene| unacknowledged(scene, 9)),
         fault(14, "full", &[Issue], |scene| {
             let server = &mut scene.cluster.records.servers[SERVER];
             (server.issued, server.acknowledged) = (PLACES, PLACES);
@@ -224,6 +222,13 @@ fn requests() -> Vec<Fault> {
     ]
 }
 
+/// So many, with the client's mark acknowledged and one place left, or none if the log is full.
+fn unacknowledged(scene: &mut Scene, count: u64) {
+    let server = &mut scene.cluster.records.servers[SERVER];
+    server.issued = server.issued.max(PLACES - 1);
+    server.acknowledged = server.issued - count;
+}
+
 /// Everything that 23 depends on; what is issued is acknowledged.
 fn checkpoint(scene: &mut Scene, starting: u64, issued: u64, interval: u64) {
     scene.cluster.shape.interval = interval;
@@ -231,14 +236,19 @@ fn checkpoint(scene: &mut Scene, starting: u64, issued: u64, interval: u64) {
     (server.starting, server.issued, server.acknowledged) = (starting, issued, issued);
 }
 
+/// Starting and issued mark; record 4 follows the replica's mark.
+fn window(scene: &mut Scene, starting: u64, issued: u64) {
+    let server = &mut scene.cluster.records.servers[SERVER];
+    (server.starting, server.issued) = (starting, issued);
+}
+
 fn work() -> Vec<Fault> {
     vec![
-        fault(16, "send to one behind", &[Send], |scene| {
-            scene.cluster.records.servers[SERVER].issued = 5
-        }),
-        fault(16, "send of nothing", &[Send], |scene| {
-            scene.cluster.records.servers[SERVER].issued = 0
-        }),
+        fault(16, "send at the starting mark", &[Send], |scene| window(scene, 4, 4)),
+        fault(16, "send below the starting mark", &[Send], |scene| window(scene, 9, 11)),
+        fault(16, "send of what is no longer held", &[Send], |scene| window(scene, 0, 12)),
+        fault(16, "send to one that has all", &[Send], |scene| window(scene, 2, 3)),
+        fault(16, "send of nothing", &[Send], |scene| window(scene, 0, 0)),
         fault(16, "copy to an equal", COPIES, |scene| {
             scene.cluster.records.servers[SERVER].marks[REPLICA] = 4
         }),

@@ -1,11 +1,11 @@
 //! For each call a state in which it is not declined.
 
-use crate::cluster::{Call, Cluster, Message, Phase, Reply, Request, Shape, Standing};
+use crate::cluster::{Call, Cluster, Message, Phase, Reply, Request, Shape, Standing, HELD};
 use crate::fate::Fate;
-use crate::medium::{place_at, put, PlaceBytes, Record, Slot, SLOT_BYTES};
+use crate::medium::{place_at, put, PlaceBytes, Record, Slot, PLACE_BYTES, SLOT_BYTES};
 use crate::segment::{Pair, Stamp, FRAME_BYTES, HEADER_BYTES, OFFSET_BYTES};
 
-pub const PLACES: u64 = 10;
+pub const PLACES: u64 = 13;
 pub const SESSION: u64 = 5;
 pub const GENERATION: u32 = 2;
 
@@ -162,6 +162,15 @@ pub fn record_bytes(id: u64) -> PlaceBytes {
     Record { id, client, generation, partition, sequence, header, data: DATA }.encode()
 }
 
+/// What a server holds that has issued so much: record n is that of place n. Where there is none
+/// because nothing is below 1, bytes stand that pass as no place; all eight differ.
+pub fn held_up_to(issued: u64) -> [PlaceBytes; HELD] {
+    std::array::from_fn(|index| match (issued + 1 + index as u64).saturating_sub(HELD as u64) {
+        0 => [0xE0 + index as u8; PLACE_BYTES],
+        id => record_bytes(id),
+    })
+}
+
 /// Replicas with these marks and the promise `SESSION`, all known to the server or its members.
 fn cluster(phase: Phase, marks: [u64; 3]) -> Cluster {
     let mut cluster = Cluster::fresh(Shape::whole(3, PLACES)).expect("an allowed shape");
@@ -179,12 +188,19 @@ fn cluster(phase: Phase, marks: [u64; 3]) -> Cluster {
     cluster
 }
 
-/// An open server with this much issued and acknowledged.
+/// An open server with this much issued and acknowledged, which holds the newest record alone.
 fn open_cluster(marks: [u64; 3], issued: u64, acknowledged: u64) -> Cluster {
     let mut cluster = cluster(Phase::Open, marks);
     let server = &mut cluster.records.servers[SERVER];
     (server.starting, server.issued, server.acknowledged) = (2, issued, acknowledged);
-    server.record = record_bytes(issued);
+    server.held[HELD - 1] = record_bytes(issued);
+    cluster
+}
+
+/// A server with two records in flight, both of which a member lacks.
+fn sending_cluster() -> Cluster {
+    let mut cluster = open_cluster([3, 4, 3], 5, 3);
+    cluster.records.servers[SERVER].held = held_up_to(5);
     cluster
 }
 
@@ -221,7 +237,7 @@ pub fn all_scenes() -> [Scene; 13] {
         (Kind::Trim, opening([6, 4, 4]), Call::Trim { server, replica, message }),
         (Kind::Open, opening([4, 4, 6]), Call::Open { server, fate }),
         (Kind::Issue, issuing_cluster(), Call::Issue { server, request }),
-        (Kind::Send, open_cluster([3, 4, 3], 4, 3), Call::Send { server, replica, message }),
+        (Kind::Send, sending_cluster(), Call::Send { server, replica, message }),
         (Kind::Note, calm(), Call::Note { server, replica, message }),
         (Kind::Read, calm(), Call::Read { server, replica, id: 4, message }),
         (Kind::Export, calm(), Call::Export { server, replica, stamp, files, message }),

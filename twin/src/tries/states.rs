@@ -4,11 +4,13 @@ use super::clients::draw_mark;
 use super::exports::draw_export;
 use super::scene::record_bytes;
 use crate::cluster::{
-    Call, Cluster, Entry, Message, Phase, Request, Server, Shape, Standing, SERVERS,
+    Call, Cluster, Entry, Message, Phase, Request, Server, Shape, Standing, HELD, SERVERS,
 };
 use crate::fate::{Fate, Left};
 use crate::locks::{lock_places, TABLE_MARKS};
-use crate::medium::{medium_bytes, place_at, put, Slot, PLACE_BYTES, SLOT_BYTES};
+use crate::medium::{
+    medium_bytes, place_at, put, PlaceBytes, Slot, PLACE_BYTES, SLOT_BYTES, WIPED,
+};
 use crate::random::Random;
 
 /// The lock whose three entries may differ.
@@ -75,7 +77,8 @@ impl Draw<'_> {
     fn server(&mut self) -> Server {
         let phase = *self.random.pick(&[Phase::Idle, Phase::Opening, Phase::Open]);
         let acknowledged = self.mark();
-        let issued = (acknowledged + self.random.below(2)).min(self.places);
+        let unacknowledged = *self.random.pick(&[0, 0, 0, 1, 1, 2, 7, 8, 9]);
+        let issued = (acknowledged + unacknowledged).min(self.places);
         Server {
             phase,
             session: self.session(),
@@ -88,8 +91,25 @@ impl Draw<'_> {
             starting: self.mark(),
             issued,
             acknowledged,
-            record: record_bytes(issued),
+            held: self.held(issued),
         }
+    }
+
+    /// Often zeros; otherwise mostly the records of the IDs that lie there, and some zeros and some
+    /// records of any ID.
+    fn held(&mut self, issued: u64) -> [PlaceBytes; HELD] {
+        if !self.random.chance(3) {
+            return [WIPED; HELD];
+        }
+        std::array::from_fn(|index| {
+            let id = (issued + 1 + index as u64).saturating_sub(HELD as u64);
+            match self.random.below(8) {
+                0 => WIPED,
+                1 => record_bytes(1 + self.random.below(self.places)),
+                _ if id == 0 => WIPED,
+                _ => record_bytes(id),
+            }
+        })
     }
 
     fn entry(&mut self) -> Entry {

@@ -4,7 +4,7 @@
 use super::caller::{is_spent, Caller};
 use super::clients::draw_mark;
 use super::exports::draw_export;
-use crate::cluster::{Call, Cluster, Phase, Request, Server, Standing};
+use crate::cluster::{Call, Cluster, Phase, Request, Server, Standing, HELD};
 use crate::random::Random;
 use crate::votes;
 
@@ -13,7 +13,7 @@ pub fn next_call(random: &mut Random, caller: &Caller, cluster: &Cluster) -> Cal
     if random.chance(12) {
         return caller.next_call(random, cluster);
     }
-    let server = pick_server(random, cluster);
+    let server = pick_server(random, caller, cluster);
     let record = &cluster.records.servers[server as usize];
     let useful = Useful { caller, cluster, server, record };
     match record.phase {
@@ -26,14 +26,14 @@ pub fn next_call(random: &mut Random, caller: &Caller, cluster: &Cluster) -> Cal
 
 /// The server of the newest session, or now and then another: one that is idle takes over, sooner if
 /// the newest session can issue no more.
-fn pick_server(random: &mut Random, cluster: &Cluster) -> u64 {
+fn pick_server(random: &mut Random, caller: &Caller, cluster: &Cluster) -> u64 {
     let record = |server: u64| &cluster.records.servers[server as usize];
     let newest = (0..4).max_by_key(|&server| record(server).session).expect("four servers");
     let other = random.below(4);
     let rate = match record(other).phase {
         _ if record(newest).phase == Phase::Idle => 1,
         Phase::Idle if is_spent(cluster, newest) => 5,
-        Phase::Idle => 60,
+        Phase::Idle => 3 * caller.patience,
         _ => 5,
     };
     if random.chance(rate) {
@@ -63,16 +63,22 @@ impl Useful<'_> {
         self.replicas(|standing, mark| standing == Standing::In && such(mark))
     }
 
+    /// The highest of their marks.
+    fn highest(&self) -> u64 {
+        self.used(|_| true).into_iter().map(|i| self.record.marks[i as usize]).max().unwrap_or(0)
+    }
+
     /// Servers whose session is over end sooner or later, also those of a full log and those that
-    /// may issue no more; some end while a record stands on a minority.
+    /// may issue no more; some end while several records stand on a minority.
     fn ends(&self, random: &mut Random) -> bool {
         let Server { session, issued, acknowledged, .. } = *self.record;
         let over = session != self.cluster.records.register.session;
-        let spent = issued == self.cluster.shape.places || is_spent(self.cluster, self.server);
-        let unfinished = acknowledged < issued && !self.used(|mark| mark == issued).is_empty();
-        random.chance(60)
+        let full = issued == self.cluster.shape.places && acknowledged >= issued;
+        let spent = full || is_spent(self.cluster, self.server);
+        let unfinished = self.highest().min(issued).saturating_sub(acknowledged);
+        random.chance(3 * self.caller.patience)
             || ((over || spent) && random.chance(4))
-            || (unfinished && random.chance(6))
+            || (unfinished > 1 && random.chance(self.caller.patience))
     }
 
     fn opening_call(&self, random: &mut Random) -> Call {
@@ -85,14 +91,15 @@ impl Useful<'_> {
         let known = self.known_marks();
         let Some(mark) = votes::decided(&known) else {
             // Nothing is decided: lift those behind to the highest.
-            let highest = known.iter().flatten().copied().max().unwrap_or(0);
-            return self.copy_up(random, highest, &absent);
+            return self.copy_up(random, self.highest(), &absent);
         };
         let (above, at) = (self.used(|other| other > mark), self.used(|other| other == mark));
         if !above.is_empty() && !random.chance(4) {
             return self.trim(random, &above);
         }
-        if at.len() >= quorum && !random.chance(4) {
+        let wanted = self.caller.members.min(known.len());
+        let ready = at.len() >= quorum && (at.len() >= wanted || random.chance(4));
+        if ready && !random.chance(4) {
             let fate = self.caller.register_fate(random);
             return Call::Open { server: self.server, fate };
         }
@@ -106,27 +113,43 @@ impl Useful<'_> {
         replicas.map(mark).collect()
     }
 
-    /// A member that lacks just the issued record gets it; one further behind is copied to. What
-    /// is acknowledged is read, noted and exported, then more is issued, or asked for where none may be.
+    /// Records are issued while others are in flight. A member that may be sent the next one gets it;
+    /// one further behind is copied to. What is acknowledged is read, noted and exported, then more is
+    /// issued, or asked for where none may be.
     fn open_call(&self, random: &mut Random) -> Call {
-        let Server { issued, acknowledged, .. } = *self.record;
+        let issued = self.record.issued;
         let full = issued == self.cluster.shape.places;
-        if random.chance(if full && acknowledged == issued { 2 } else { 6 }) {
+        let in_flight = self.record.unacknowledged();
+        if random.chance(if full && in_flight == 0 { 2 } else { 6 }) {
             return self.look(random);
         }
-        if !full && is_spent(self.cluster, self.server) && random.chance(2) {
+        let due = !full && self.cluster.is_checkpoint_due(self.server as usize);
+        let more = !full && !due && (1..self.caller.in_flight).contains(&in_flight);
+        if more && !random.chance(3) || due && in_flight == 0 && random.chance(2) {
             return Call::Issue { server: self.server, request: self.request(random) };
         }
-        let behind = self.used(|mark| mark + 1 == issued);
-        if !behind.is_empty() && (acknowledged < issued || random.chance(2)) {
-            let (server, replica) = (self.server, *random.pick(&behind));
-            return Call::Send { server, replica, message: self.caller.message(random) };
+        let behind = self.used(|mark| self.record.held_record(mark + 1).is_some());
+        if !behind.is_empty() && (in_flight > 0 || random.chance(self.caller.fairness)) {
+            return self.send(random, &behind);
         }
         let lagging = !self.used(|mark| mark < issued).is_empty();
-        if acknowledged < issued || (lagging && random.chance(4)) {
-            return self.copy_up(random, issued, &[]);
+        let outrun = self.used(|mark| issued > mark + HELD as u64);
+        if !outrun.is_empty() && random.chance(8) {
+            return self.send(random, &outrun);
+        }
+        let rate = if outrun.is_empty() { 4 * self.caller.fairness } else { 4 };
+        if in_flight > 0 || (lagging && random.chance(rate)) {
+            return self.copy_up(random, self.highest(), &[]);
         }
         Call::Issue { server: self.server, request: self.request(random) }
+    }
+
+    /// Mostly to the first, so that others fall behind.
+    fn send(&self, random: &mut Random, replicas: &[u64]) -> Call {
+        let fair = random.chance(self.caller.fairness);
+        let (server, replica) =
+            (self.server, if fair { *random.pick(replicas) } else { replicas[0] });
+        Call::Send { server, replica, message: self.caller.message(random) }
     }
 
     /// Reads, notes or exports.
@@ -173,11 +196,14 @@ impl Useful<'_> {
     }
 
     /// Few locks, or more of them so that some were never written, and clients that have read just as
-    /// much as is asked of them, or a little less.
+    /// much as is asked of them, or a little less. Nobody has read what is in flight, so that then most
+    /// ask for none.
     fn request(&self, random: &mut Random) -> Request {
         let length = random.below(29) as usize;
         let data = if random.chance(3) { random.bytes(length) } else { Vec::new() };
-        let count = if random.chance(4) { 0 } else { 1 + random.below(4) };
+        let calm = self.record.unacknowledged() == 0;
+        let some = if calm { !random.chance(4) } else { random.chance(4) };
+        let count = if some { 1 + random.below(4) } else { 0 };
         let kinds = *random.pick(&[2, 40]);
         let locks: Vec<u64> = (0..count).map(|_| random.below(kinds)).collect();
         Request {

@@ -43,7 +43,15 @@ impl Answered {
 
     /// To replicas 0 and 1.
     pub fn send(&mut self, server: u64) -> [Result<u64, u64>; 2] {
-        [0, 1].map(|replica| self.call(Call::Send { server, replica, message: answered() }))
+        [0, 1].map(|replica| self.send_to(server, replica))
+    }
+
+    pub fn send_to(&mut self, server: u64, replica: u64) -> Result<u64, u64> {
+        self.call(Call::Send { server, replica, message: answered() })
+    }
+
+    pub fn copy(&mut self, server: u64, from: u64, to: u64) -> Result<u64, u64> {
+        self.call(Call::Copy { server, from, to, message: answered() })
     }
 
     /// The byte of data under an ID.

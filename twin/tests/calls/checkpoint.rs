@@ -214,7 +214,7 @@ fn a_server_that_is_due_goes_on_but_for_issue() {
     assert_eq!([0, 1, 2].map(|replica| cluster.prepare(0, replica)), [Ok(0); 3]);
     assert_eq!(cluster.open(0), Ok(0));
     assert_eq!(cluster.issue(0, 0, 0xAA), Ok(1));
-    assert_eq!(cluster.issue(0, 0, 0xBB), Err(13));
+    assert_eq!(cluster.issue(0, 0, 0xBB), Err(23));
     assert_eq!(cluster.send(0), [Ok(0), Ok(1)]);
     let before = cluster.0.clone();
     assert_eq!([0, 1].map(|mark| cluster.issue(0, mark, 0xBB)), [Err(23); 2]);

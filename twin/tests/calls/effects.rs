@@ -1,7 +1,7 @@
 //! What calls do, at the points where handed-in states tell readings of document 01 apart.
 
 use twin::cluster::{
-    Answer, Cluster, Entry, Message, Phase, Refusal, Register, Request, Server, Standing,
+    Answer, Cluster, Entry, Message, Phase, Refusal, Register, Request, Server, Standing, HELD,
 };
 use twin::fate::{Fate, Left};
 use twin::locks::{lock_places, TABLE_MARKS};
@@ -38,6 +38,7 @@ fn take_starts_from_a_zero_record() {
     register.entries[6] = Entry { session: 9, closing: Some(u64::MAX) };
     let register = *register;
     (record(&mut cluster).starting, record(&mut cluster).marks[6]) = (4, 77);
+    record(&mut cluster).held = held_up_to(12);
     assert_eq!(cluster.take(SERVER_NUMBER, Fate::Answered), Ok(Answer::Number(9)));
     let expected = Server {
         phase: Phase::Opening,
@@ -54,6 +55,7 @@ fn take_starts_from_a_zero_record() {
 fn take_without_answer_leaves_the_server_idle() {
     for (fate, session) in [(Fate::Lost, SESSION), (Fate::AnswerLost, SESSION + 1)] {
         let mut cluster = cluster_for(Kind::Take);
+        record(&mut cluster).held = held_up_to(12);
         assert_eq!(cluster.take(SERVER_NUMBER, fate), Ok(Answer::Silent));
         assert_eq!(*record(&mut cluster), Server::default());
         assert_eq!(cluster.records.register.session, session);
@@ -157,7 +159,7 @@ fn the_mark_after_an_append_is_counted_anew() {
     assert_eq!(record(&mut cluster).marks[REPLICA], 5);
 
     let mut cluster = cluster_for(Kind::Send);
-    record(&mut cluster).record = [7; 64];
+    record(&mut cluster).held[HELD - 2] = [7; 64];
     assert_eq!(cluster.send(SERVER_NUMBER, REPLICA as u64, &answered()), Ok(Answer::Number(3)));
     assert_eq!(record(&mut cluster).marks[REPLICA], 3);
     assert_eq!(place(cluster.medium(REPLICA), 4), [7; 64]);
@@ -210,7 +212,7 @@ fn about_to_open() -> Cluster {
     server.entries[4] = Entry { session: 6, closing: Some(1) };
     server.standings[6] = Standing::In;
     server.marks[6] = 4;
-    server.record = [9; 64];
+    server.held = std::array::from_fn(|index| [9 + index as u8; 64]);
     cluster.locks.fill(1);
     cluster
 }
@@ -304,7 +306,7 @@ fn issue_judges_all_locks_before_it_writes_any() {
     assert!(cluster == before);
 }
 
-/// Only a record that is not acknowledged yet stands in the way.
+/// Only records that are not acknowledged yet stand in the way.
 #[test]
 fn issue_goes_on_when_more_is_acknowledged_than_issued() {
     let mut cluster = cluster_for(Kind::Issue);
@@ -317,8 +319,9 @@ fn issue_holds_a_valid_record() {
     let mut cluster = cluster_for(Kind::Issue);
     assert_eq!(ask(&mut cluster, 1, &[]), Ok(Answer::Number(6)));
     assert_eq!(record(&mut cluster).issued, 6);
-    assert!(is_place(6, &record(&mut cluster).record));
-    assert_eq!(record(&mut cluster).record[32], 0xAB);
+    let [.., newest] = record(&mut cluster).held;
+    assert!(is_place(6, &newest));
+    assert_eq!(newest[32], 0xAB);
 }
 
 #[test]
@@ -350,6 +353,7 @@ fn stop_and_reassign() {
     for kind in [Kind::Take, Kind::Open, Kind::Send] {
         let mut cluster = cluster_for(kind);
         cluster.locks.fill(3);
+        record(&mut cluster).held = held_up_to(12);
         let before = cluster.clone();
         assert_eq!(cluster.stop(SERVER_NUMBER), Ok(Answer::Nothing));
         assert_eq!(*record(&mut cluster), Server::default());

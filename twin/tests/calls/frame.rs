@@ -56,7 +56,8 @@ fn calls_leave_alone_what_they_do_not_name() {
     let mut random = Random::new(9);
     let mut met = BTreeSet::new();
     for _ in 0..CALLS {
-        let places = 1 + random.below(4);
+        let most = *random.pick(&[4, 4, 4, 12]);
+        let places = 1 + random.below(most);
         let mut draw = Draw { random: &mut random, places };
         let before = draw.cluster();
         let call = draw.call(&before);

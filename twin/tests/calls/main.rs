@@ -5,5 +5,6 @@ mod checkpoint;
 mod effects;
 mod export;
 mod frame;
+mod in_flight;
 mod locks;
 mod refusals;

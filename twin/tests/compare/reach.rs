@@ -2,7 +2,7 @@
 
 use std::collections::{BTreeMap, BTreeSet};
 
-use twin::cluster::{Cluster, SERVERS};
+use twin::cluster::{Cluster, Server, HELD, SERVERS};
 use twin::compare::counts::{Counts, Kind};
 use twin::compare::scripts::{script, Script};
 use twin::compare::{malformed, pieces, unusual};
@@ -119,6 +119,60 @@ fn clients_around_the_mark_that_locks_ask_for() {
     }
     println!("{met:?}");
     assert!((-1..=1).all(|above| met[&above] > 300), "{met:?}");
+}
+
+/// What the scripts meet of records in flight (document 02, No. 5).
+#[derive(Debug, Default)]
+struct InFlight {
+    /// Requests granted, by how many records are in flight before.
+    issued: [u64; HELD],
+    /// Sends that are answered, by the index of the record.
+    sent: [u64; HELD],
+    /// Sends and copies to a member that is more than eight behind: 16, and answered.
+    outrun: u64,
+    lifted: u64,
+}
+
+impl InFlight {
+    fn count(&mut self, cluster: &Cluster, line: &str, reply: &[u8]) -> Option<()> {
+        let fields: Vec<&str> = line.trim_end().split('\t').collect();
+        let server = cluster.records.servers.get(fields.get(1)?.parse::<usize>().ok()?)?;
+        let behind = |server: &Server, replica: &str| {
+            let mark = server.marks.get(replica.parse::<usize>().ok()?)?;
+            Some(server.issued.checked_sub(*mark)? as usize)
+        };
+        let ok = reply.starts_with(b"ok\t");
+        match (fields.as_slice(), ok) {
+            (["issue", ..], true) => self.issued[server.unacknowledged() as usize] += 1,
+            (["send", _, replica, _], true) => self.sent[HELD - behind(server, replica)?] += 1,
+            (["send", _, replica, _], false) => {
+                self.outrun += u64::from(reply == b"no\t16\n" && behind(server, replica)? > HELD);
+            }
+            (["copy", _, _, to, _], true) => self.lifted += u64::from(behind(server, to)? > HELD),
+            _ => {}
+        }
+        Some(())
+    }
+}
+
+/// Each number in flight, each index of what is held, and members that are outrun.
+#[test]
+fn records_in_flight() {
+    let mut met = InFlight::default();
+    for script in scripts() {
+        let mut program = Program::default();
+        for line in script.input.split_inclusive(|&byte| byte == b'\n') {
+            let before = program.cluster().cloned();
+            let mut reply = Vec::new();
+            program.feed(line, &mut reply);
+            if let (Some(cluster), Ok(line)) = (before, std::str::from_utf8(line)) {
+                met.count(&cluster, line, &reply);
+            }
+        }
+    }
+    println!("{met:?}");
+    assert!(met.issued.iter().chain(&met.sent).all(|&count| count > 100), "{met:?}");
+    assert!(met.outrun > 10 && met.lifted > 10, "{met:?}");
 }
 
 #[test]

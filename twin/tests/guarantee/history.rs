@@ -1,10 +1,10 @@
 //! What a list of calls has brought about, in the words of demand 3, and the three conclusions.
 
-use std::collections::{BTreeMap, HashMap};
+use std::collections::{BTreeMap, BTreeSet, HashMap};
 
 use twin::cluster::{Answer, Call, Cluster, Reply, Request, SERVERS};
 use twin::fate::Fate;
-use twin::medium::{is_place, place, PlaceBytes};
+use twin::medium::{is_place, place, PlaceBytes, Record};
 
 /// An issue call that was answered: two with equal bytes are two transactions.
 struct Transaction {
@@ -36,6 +36,8 @@ pub struct History {
     issued: HashMap<(u64, u64), usize>,
     /// The transaction in each replica's place; index 0 is place 1.
     standing: Vec<Vec<Option<usize>>>,
+    /// The replicas that each transaction ever stood on.
+    reached: Vec<BTreeSet<u64>>,
     /// The session of each server's calls: what its last take answered.
     sessions: [u64; SERVERS],
     opened: BTreeMap<u64, Session>,
@@ -47,6 +49,7 @@ impl History {
             transactions: Vec::new(),
             issued: HashMap::new(),
             standing: vec![vec![None; places]; replicas],
+            reached: Vec::new(),
             sessions: [0; SERVERS],
             opened: BTreeMap::new(),
         }
@@ -122,13 +125,16 @@ impl History {
     }
 
     fn issue(&mut self, server: u64, request: &Request, id: u64, after: &Cluster) {
-        let bytes = after.records.servers[server as usize].record;
+        let bytes = record_bytes(request, id);
+        let [.., newest] = after.records.servers[server as usize].held;
+        assert!(newest == bytes, "ID {id} is not held as it was issued");
         let transaction = self.transactions.len();
         self.transactions.push(Transaction {
             bytes,
             locks: request.locks.clone(),
             client_mark: request.client_mark,
         });
+        self.reached.push(BTreeSet::new());
         let session = self.session(server);
         self.issued.insert((session, id), transaction);
         for log in &mut self.opened.get_mut(&session).expect("issued by an open server").logs {
@@ -145,11 +151,12 @@ impl History {
         before: &Cluster,
         after: &Cluster,
     ) {
-        let replica = replica as usize;
-        let valid = |cluster: &Cluster| is_place(number, &place(cluster.medium(replica), number));
+        let index = replica as usize;
+        let valid = |cluster: &Cluster| is_place(number, &place(cluster.medium(index), number));
         if !valid(before) && valid(after) {
-            assert!(transaction.is_some(), "a place is made valid by a transaction");
-            self.standing[replica][number as usize - 1] = transaction;
+            let made = transaction.expect("a place is made valid by a transaction");
+            self.standing[index][number as usize - 1] = transaction;
+            self.reached[made].insert(replica);
         }
     }
 
@@ -231,12 +238,26 @@ impl History {
         log.range(..=session.acknowledged).map(|(_, held)| held.bytes).collect()
     }
 
+    /// What the session has issued and not acknowledged, by ID: the replicas that each reached.
+    pub fn in_flight(&self, session: u64) -> BTreeMap<u64, &BTreeSet<u64>> {
+        let acknowledged = self.opened[&session].acknowledged;
+        let issued =
+            self.issued.iter().filter(|((by, id), _)| *by == session && *id > acknowledged);
+        issued.map(|((_, id), &transaction)| (*id, &self.reached[transaction])).collect()
+    }
+
     /// The last ID of the log of the server's session that names the lock.
     pub fn last_writer(&self, server: u64, lock: u64) -> Option<u64> {
         let log = self.opened.get(&self.session(server))?.logs.first()?;
         let names = |held: &Held| self.transactions[held.transaction].locks.contains(&lock);
         log.iter().rfind(|(_, held)| names(held)).map(|(&id, _)| id)
     }
+}
+
+/// The record that a request becomes under this ID.
+fn record_bytes(request: &Request, id: u64) -> PlaceBytes {
+    let Request { client, generation, partition, sequence, header, ref data, .. } = *request;
+    Record { id, client, generation, partition, sequence, header, data }.encode()
 }
 
 fn pairs<'a, T>(first: &'a [T], second: &'a [T]) -> impl Iterator<Item = (&'a T, &'a T)> {

@@ -1,13 +1,16 @@
 //! The guarantee between sessions, on long random lists of calls from fresh clusters: every fate, a
-//! cut at any write, old servers that go on talking, sessions that the interval ends, exports.
+//! cut at any write, old servers that go on talking, sessions that the interval ends, servers stopped
+//! or overtaken with records in flight, exports.
 
 mod exports;
 mod history;
+mod in_flight;
 mod lenient;
 
 use std::collections::{BTreeMap, BTreeSet};
 
 use history::History;
+use in_flight::InFlight;
 use twin::cluster::{first_row, Call, Cluster, Refusal, Reply, Shape, FILES_ROW, ORDER};
 use twin::random::Random;
 use twin::tries::caller::{self, Caller};
@@ -40,10 +43,15 @@ struct Met {
     /// Those after which another was opened, and where that one acknowledged more.
     forced: u64,
     resumed: u64,
+    /// Refusal 16 of a send.
+    unheld: u64,
+    in_flight: InFlight,
 }
 
 impl Met {
     fn count_call(&mut self, call: &Call, reply: &Reply, changed: bool) {
+        self.unheld +=
+            u64::from(matches!(call, Call::Send { .. }) && *reply == Err(Refusal::NothingToDo));
         match (call, reply) {
             (_, Err(refusal)) => *self.refusals.entry(refusal.row()).or_default() += 1,
             (Call::Issue { request, .. }, _) => self.locked += u64::from(!request.locks.is_empty()),
@@ -81,14 +89,14 @@ impl Met {
     }
 }
 
-/// K is often far below N, and now and then N.
+/// K is often far below N, and now and then N, so that eight may be in flight.
 fn draw_shape(random: &mut Random) -> Shape {
     let replicas = *random.pick(&[1, 3, 3, 3, 5, 7]);
-    let most_places = *random.pick(&[3, 10, 30]);
+    let most_places = *random.pick(&[3, 16, 40]);
     let places = 1 + random.below(most_places);
     let few = 1 + random.below(places.min(3));
     let any = 1 + random.below(places);
-    Shape { replicas, places, interval: *random.pick(&[few, few, few, any, places]) }
+    Shape { replicas, places, interval: *random.pick(&[few, few, any, places, places]) }
 }
 
 /// The session whose issue was declined with 23, if it is the newest that was opened.
@@ -136,7 +144,10 @@ fn run_list(random: &mut Random, apply: Apply, met: &mut Met) -> (Shape, History
         met.count_call(&call, &reply, cluster.media != before.media);
         met.count_writer(&history, &before, &call, &reply);
         due.extend(due_session(&history, &before, &call, &reply));
+        met.in_flight.count_call(&before, &call, &reply);
+        let newest = history.opened().keys().next_back().copied();
         history.add(&before, &call, &reply, &cluster);
+        met.in_flight.count_open(&history, newest);
     }
     met.count_list(&history, &due);
     (shape, history)
@@ -165,6 +176,9 @@ fn later_sessions_keep_what_earlier_ones_acknowledged() {
     assert!(met.exported > 2 * LISTS);
     assert!(met.dropped > LISTS / 4);
     assert!(met.refusals[&FILES_ROW] > LISTS / 4);
+    assert!(met.refused(13) > LISTS / 4);
+    assert!(met.unheld > LISTS);
+    met.in_flight.assert_met(LISTS);
     // These cannot be met from a fresh cluster within reach: 1 only for export's files.
     let unmet = (0..ORDER.len()).filter(|row| !met.refusals.contains_key(row));
     assert_eq!(unmet.map(|row| ORDER[row]).collect::<Vec<_>>(), [1, 2, 18, 20, 21]);

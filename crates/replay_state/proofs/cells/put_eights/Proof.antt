@@ -1,15 +1,16 @@
--- `cells::put_bytes`. The measure is how many of the eight are left.
+-- `cells::put_eights`. The measure is how many are left.
 -- Assumes nothing.
 use Prim.Native.Nat.{_-_, _≤_}
+use lib.ListN.{length}
 use borrow.Author.Needs.{needs}
-use Rattle.replay_state.proofs.cells.put_bytes.Statement.{statement}
-use Rattle.replay_state.proofs.cells.put_bytes.Tie as tie
+use Rattle.replay_state.proofs.cells.put_eights.Statement.{statement}
+use Rattle.replay_state.proofs.cells.put_eights.Tie as tie
 
 abbrev Inv-loop : tie.InvT-loop
-Inv-loop w₀ k b i₀ w i = i ≤ 8
+Inv-loop w₀ k b i₀ w i = i ≤ length b
 
 abbrev μ-loop : tie.MeasureT-loop
-μ-loop w₀ k b i₀ w i = 8 - i
+μ-loop w₀ k b i₀ w i = length b - i
 
 loop-holds : tie.Need-loop-holds Inv-loop μ-loop
 loop-holds c = search needs
@@ -38,8 +39,8 @@ loop-again c = search needs
 returns : tie.Need-returns Inv-loop μ-loop
 returns c = search needs
 
-pub put-bytes-spec : {M : Type 1} → statement M
-put-bytes-spec =
+pub put-eights-spec : {M : Type 1} → statement M
+put-eights-spec =
     tie.close
     (tie.spec
     Inv-loop

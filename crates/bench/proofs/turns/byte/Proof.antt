@@ -1,8 +1,8 @@
--- `segments::byte`: an element of a slice of bytes is a byte.
+-- `turns::byte`: an element of a slice of bytes is a byte.
 use native.Mathlib.Omega.{arith}
 use borrow.Author.Needs.{needs}
-use Rattle.bench.proofs.segments.byte.Statement.{statement}
-use Rattle.bench.proofs.segments.byte.Tie as tie
+use Rattle.bench.proofs.turns.byte.Statement.{statement}
+use Rattle.bench.proofs.turns.byte.Tie as tie
 
 returns : tie.Need-returns
 returns c = search needs

@@ -1,29 +1,29 @@
--- `sums::put_all`. The invariant: what is lent keeps its length.
+-- `cells::fill`. The invariant: what is lent keeps its length.
 -- Assumes nothing.
 use mathlib.Core.Path.{_≡_}
 use Prim.Native.Nat.{_-_}
 use lib.ListN.{length}
 use borrow.Author.Needs.{needs}
-use Rattle.replay_state.proofs.sums.put_all.Statement.{statement}
-use Rattle.replay_state.proofs.sums.put_all.Tie as tie
+use Rattle.replay_state.proofs.cells.fill.Statement.{statement}
+use Rattle.replay_state.proofs.cells.fill.Tie as tie
 
 abbrev Inv-loop : tie.InvT-loop
-Inv-loop out₀ numbers i₀ out i = length out ≡ length out₀
+Inv-loop b₀ numbers i₀ b i = length b ≡ length b₀
 
 abbrev μ-loop : tie.MeasureT-loop
-μ-loop out₀ numbers i₀ out i = length numbers - i
+μ-loop b₀ numbers i₀ b i = length b - i
 
 loop-holds : tie.Need-loop-holds Inv-loop μ-loop
 loop-holds c = search needs
 
-mul-put : tie.Need-mul-put Inv-loop μ-loop
-mul-put c = search needs
+mul-put-be : tie.Need-mul-put-be Inv-loop μ-loop
+mul-put-be c = search needs
 
-shared-slice-read-put : tie.Need-shared-slice-read-put Inv-loop μ-loop
-shared-slice-read-put c = search needs
+at-requires : tie.Need-at-requires Inv-loop μ-loop
+at-requires c κs = search needs
 
-put-requires : tie.Need-put-requires Inv-loop μ-loop
-put-requires c κs = search needs
+put-be-requires : tie.Need-put-be-requires Inv-loop μ-loop
+put-be-requires c κs = search needs
 
 add-i : tie.Need-add-i Inv-loop μ-loop
 add-i c = search needs
@@ -40,16 +40,16 @@ same-length c = search needs
 returns : tie.Need-returns Inv-loop μ-loop
 returns c = search needs
 
-pub put-all-spec : {M : Type 1} → statement M
-put-all-spec =
+pub fill-spec : {M : Type 1} → statement M
+fill-spec =
     tie.close
     (tie.spec
     Inv-loop
     μ-loop
     loop-holds
-    mul-put
-    shared-slice-read-put
-    put-requires
+    mul-put-be
+    at-requires
+    put-be-requires
     add-i
     loop-less
     loop-again

@@ -12,8 +12,8 @@ use cluster::Entry;
 use cluster::HELD;
 use cluster::Records;
 use cluster::Server;
-use cluster::put_server;
 use fate::Fate;
+use servers::put_server;
 use std::num::wrapping_add_u64;
 
 fn reads(job: u64, m: &mut [u8], count: u64) -> u64 {

@@ -146,7 +146,7 @@ pub fn prepared(r: Records, m: &mut [u8], tables: &mut [u64], server: u64) -> Re
 pub fn issued(r: Records, m: &mut [u8], tables: &mut [u64]) -> Records {
     let q = Request {
         mark: 0,
-        client: 1,
+        client: 100,
         generation: 0,
         partition: 2,
         sequence: 3,

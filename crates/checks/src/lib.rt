@@ -319,7 +319,7 @@ pub fn settle(records: Records, i: usize, c: Change) -> Outcome
     let s = c.server;
     let a = c.answer;
     Outcome {
-        records: cluster::put_server(records, i, s),
+        records: servers::put_server(records, i, s),
         answer: a,
         bytes: [0; 64],
     }

@@ -12,7 +12,7 @@ use Rattle.fate.specs.declared.Left.{Left}
 use Rattle.fate.specs.declared.Left.the-variants.{Old, New, Torn}
 use Rattle.storage.specs.declared.slot.Current.{Current}
 use Rattle.storage.specs.declared.slot.Current.the-variants.{First, Second, Neither}
-use Rattle.storage.specs.Sizes.{dataLimit, placesLimit, mediumSize}
+use Rattle.storage.specs.Sizes.{placesLimit, mediumSize}
 use Rattle.storage.specs.Slots.{currentOf, storedSlot}
 use Rattle.storage.specs.Log.{placesFrom, markOf}
 use Rattle.storage.specs.Operations.{mediumAt}
@@ -24,6 +24,8 @@ use Rattle.quorum.specs.Vote.{quorum, majorityMark, decided}
 use Rattle.locks.specs.declared.LockTest.{LockTest}
 use Rattle.locks.specs.declared.LockTest.the-variants.{Free, Held}
 use Rattle.locks.specs.Locks.{firstHeld}
+use Rattle.limits.specs.declared.Limits.{Limits}
+use Rattle.limits.specs.Limits.{limitsOf, tooMuch}
 use Rattle.cluster.specs.declared.Shape.{Shape}
 use Rattle.cluster.specs.declared.Closing.{Closing}
 use Rattle.cluster.specs.declared.Closing.the-variants.{Unresolved, Mark}
@@ -175,12 +177,8 @@ otherGeneration v q = not (eqb (q .generation) (v .generation))
 abbrev pub clientAhead : Server → Request → Bool
 clientAhead v q = ltb (v .acked) (q .mark)
 
--- 12 "Data exceed 28 bytes, or locks exceed 4", of so many bytes and locks
-abbrev pub lockLimit : ℕ
-lockLimit = 4
-
-abbrev pub tooMuch : ℕ → ℕ → Bool
-tooMuch size locks = ltb dataLimit size || ltb lockLimit locks
+-- 12, document 02, No. 6: "Refusal 12 reads the pair that belongs to the client", in place of document 01's "Data exceed 28 bytes, or locks exceed 4":
+-- limits specs/Limits.antt `tooMuch`, which issue's rows cite
 
 -- 13, document 02, No. 5: "Refusal 13 now means eight or more unacknowledged", in place of document 01's "The issued record isn't acknowledged yet
 -- (issue)". They are counted from the acknowledged mark; one above the issued mark, which can be handed in, leaves none unacknowledged.
@@ -355,17 +353,26 @@ receivedAt N v i media f = receivedRows N (v .session) (markAt v i) (mediumAt N 
 abbrev pub exportedRows : ℕ → Server → ℕ → List ℕ → Fate → Files → List Row
 exportedRows N v i media f files = receivedAt N v i media f ++ (seen f 1 (otherSizes (exportedPlaces N v i media) files) ∷ [])
 
--- issue's own: of a request with so many bytes of data, by a server's record and lock table
-abbrev pub requestRows : Shape → Server → Request → ℕ → List ℕ → List ℕ → List Row
-requestRows h v q size table locks =
+-- issue's own: under a pair of limits, of a request with so many bytes of data, by a server's record and lock table
+abbrev pub requestRows : Shape → Limits → Server → Request → ℕ → List ℕ → List ℕ → List Row
+requestRows h l v q size table locks =
     row 10 (otherGeneration v q)
     ∷ row 11 (clientAhead v q)
-    ∷ row 12 (tooMuch size (length locks))
+    ∷ row 12 (tooMuch l size (length locks))
     ∷ row 13 (unacknowledged v)
     ∷ row 14 (full (h .places) v)
     ∷ row 23 (checkpointDue (h .interval) v)
     ∷ lockRow (firstHeld table locks (q .mark))
     ∷ []
+
+-- what an issue is checked for under a pair of limits
+abbrev pub issueChecks : Limits → Shape → State → Input → ℕ → Request → Checks
+issueChecks l h x p s q =
+    record {
+      admission = phaseRows h x s onlyOpen;
+      sending = requestRows h l (serverAt (x .records) s) q (length (p .content)) (tableAt s (x .tables)) (p .locks);
+      receiving = [];
+    }
 
 abbrev pub checksOf : Shape → State → Input → Call → Checks
 checksOf h x p (call.Take s f) =
@@ -406,12 +413,7 @@ checksOf h x p (call.Open s f) =
           ∷ [];
       receiving = seen f 22 (sessionDiffers (x .records .register) v) ∷ [];
     }
-checksOf h x p (call.Issue s q) =
-    record {
-      admission = phaseRows h x s onlyOpen;
-      sending = requestRows h (serverAt (x .records) s) q (length (p .content)) (tableAt s (x .tables)) (p .locks);
-      receiving = [];
-    }
+checksOf h x p (call.Issue s q) = issueChecks (limitsOf (q .client)) h x p s q
 checksOf h x p (call.Send s i f) =
     let v = serverAt (x .records) s in
     record {
@@ -445,10 +447,11 @@ checksOf h x p call.Reassign =
     record { admission = clusterRows h x; sending = row 21 (generationAtTop (x .records .register .generation)) ∷ []; receiving = [] }
 
 -- a call's whole list
+abbrev pub listOf : Checks → List Row
+listOf k = k .admission ++ (k .sending ++ k .receiving)
+
 abbrev pub rowsOf : Shape → State → Input → List Row
-rowsOf h x p =
-    let k = checksOf h x p (p .call) in
-    k .admission ++ (k .sending ++ k .receiving)
+rowsOf h x p = listOf (checksOf h x p (p .call))
 
 -- the first number whose condition holds
 pub data Verdict : Type 0 where

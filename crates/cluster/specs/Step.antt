@@ -1,13 +1,16 @@
 -- One call: unless declined, its effect. This is what the running calls are proved to do and what the guarantee is about.
 -- Assumes nothing.
 use mathlib.Core.List.{List, _++_}
+use Prim.Native.Nat.{ℕ}
 use Rattle.cluster.specs.declared.Shape.{Shape}
+use Rattle.cluster.specs.declared.Request.{Request}
 use Rattle.cluster.specs.declared.Call.{Call}
 use Rattle.cluster.specs.declared.Call.the-variants as call
 use Rattle.segment.specs.Pair.{Files}
+use Rattle.limits.specs.declared.Limits.{Limits}
 use Rattle.cluster.specs.State.{State, serverAt}
 use Rattle.cluster.specs.Replies.{Reply, ok, no, silent}
-use Rattle.cluster.specs.Refusals.{Input, Row, checksOf, rowsOf, voteMark, Verdict, pass, declined, firstOf}
+use Rattle.cluster.specs.Refusals.{Input, Row, issueChecks, checksOf, listOf, rowsOf, voteMark, Verdict, pass, declined, firstOf}
 use Rattle.cluster.specs.Effects.{Result, noBytes, prepareEffect, trimEffect, noteEffect, readEffect, exportEffect, exportedPair, copyEffect, sendEffect, takeEffect, openEffect, issueEffect, stopEffect, reassignEffect}
 
 -- what each of the twelve calls does
@@ -45,6 +48,11 @@ onceSent h x p = rest (checksOf h x p (p .call) .receiving) x (effect h x p (p .
 
 unfoldable pub step : Shape → State → Input → Result
 step h x p = rest (rowsOf h x p) x (effect h x p (p .call))
+
+-- Document 02, No. 6: "What is shown about issue is shown once for a limit pair and used for both". An issue under a pair of limits; `step` of an issue is
+-- this, under the pair that belongs to its client.
+abbrev pub issueUnder : Limits → Shape → State → Input → ℕ → Request → Result
+issueUnder l h x p s q = rest (listOf (issueChecks l h x p s q)) x (issueEffect x s q (p .content) (p .locks))
 
 -- ================ the two files that are lent beside a call
 

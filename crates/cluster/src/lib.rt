@@ -1,9 +1,5 @@
-// What the calls of a cluster get and give: shape, register, server records, calls, answers. All are passed by value.
-pub mod held;
-
-ghost use mathlib.Core.Path.{_≡_};
-ghost use Prim.Native.Nat.{_<_};
-ghost use Rattle.cluster.specs.State.{idleServer, putServer};
+// What the calls of a cluster get and give: shape, register, server records, calls, answers. All are passed by value. There are no functions: those on a
+// server's record are in the crate servers.
 use fate::Fate;
 use storage::sizes::PLACE;
 
@@ -151,37 +147,4 @@ pub struct Outcome {
     pub records: Records,
     pub answer: Answer,
     pub bytes: [u8; 64],
-}
-
-// An idle server's record is all zeros.
-pub fn idle() -> Server
-    ensures { λ s. ⌜ s ≡ idleServer ⌝ }
-{
-    let none = Entry {
-        session: 0,
-        closing: Closing::Unresolved,
-    };
-    Server {
-        phase: Phase::Idle,
-        session: 0,
-        generation: 0,
-        entries: [none; 7],
-        known: [false; 7],
-        dropped: [false; 7],
-        marks: [0; 7],
-        start: 0,
-        issued: 0,
-        acked: 0,
-        held: [0; HELD],
-    }
-}
-
-// The records with one server replaced.
-pub fn put_server(records: Records, i: usize, s: Server) -> Records
-    requires { ⌜ i < 4 ⌝ }
-    ensures { λ r. ⌜ r ≡ putServer records i s ⌝ }
-{
-    let mut next = records;
-    next.servers[i] = s;
-    next
 }

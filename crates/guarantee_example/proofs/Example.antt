@@ -15,10 +15,11 @@ use Rattle.cluster.specs.State.{fresh}
 use Rattle.guarantee.specs.History.{Logged, log, History, setAt, told, heard, beginning, along}
 use Rattle.guarantee.specs.Guarantee.{InRange, Share, Kept}
 use Rattle.guarantee.proofs.Guarantee.{guarantee}
+use Rattle.guarantee_example.specs.Elements.{bookings}
 use Rattle.guarantee_example.specs.Example.{shape, calls-1, calls-2, calls-3, calls-4, calls-5, calls, replies-1, replies-2, replies-3, replies-4, replies-5, first, second, third}
 use Rattle.guarantee_example.proofs.Outline.{Line, outline, retold, ReadAll, FitEach}
 use Rattle.guarantee_example.proofs.Worked.{lines, opened-at, repliesIn, then-lines, told-by, covered, found}
-use Rattle.guarantee_example.proofs.Fitting.{issuing-fits, take, prepare, opens, send, copy, fit-then}
+use Rattle.guarantee_example.proofs.Fitting.{asking-fits, issuing-fits, take, prepare, opens, send, copy, fit-then}
 use Rattle.guarantee_example.proofs.States.{state-1, state-2, state-3, state-4}
 use Rattle.guarantee_example.proofs.Parts.{part-1, part-2, part-3, part-4, part-5}
 
@@ -74,7 +75,7 @@ fits-2 = (issuing-fits 0 _ _ (lit< tt, tt), (send 0 Answered, (send 1 Answered, 
 fits-3 : FitEach calls-3
 fits-3 = (
   issuing-fits 1 _ [] tt,
-  (send 0 Answered, (send 1 Answered, (send 2 (Cut 1 New), (issuing-fits 1 _ [] tt, (issuing-fits 1 _ [] tt, (send 0 Answered, tt)))))),
+  (send 0 Answered, (send 1 Answered, (send 2 (Cut 1 New), (issuing-fits 1 _ [] tt, (issuing-fits 1 _ [] tt, (asking-fits bookings 1 _ [] (lit< tt) tt, (send 0 Answered, tt))))))),
 )
 
 fits-4 : FitEach calls-4

@@ -3,7 +3,7 @@
 use mathlib.Core.Path.{_≡_, refl, sym}
 use mathlib.Core.Bool.{true≢false}
 use mathlib.Core.List.{List, [], _∷_, _++_}
-use Prim.Native.Nat.{ℕ}
+use Prim.Native.Nat.{ℕ, _<_, _^_}
 use native.Mathlib.Omega.{arith}
 use lib.Dec.{lit<}
 use Rattle.octets.specs.Octets.{Bytes}
@@ -14,21 +14,24 @@ use Rattle.cluster.specs.declared.Call.{Call}
 use Rattle.cluster.specs.declared.Call.the-variants as call
 use Rattle.guarantee.specs.History.{Element}
 use Rattle.guarantee.specs.Guarantee.{Fits}
-use Rattle.guarantee_example.specs.Elements.{plain, request, issuing}
+use Rattle.guarantee_example.specs.Elements.{plain, request, asking, gate, issuing}
 use Rattle.guarantee_example.proofs.Outline.{FitEach}
 
 plain-fits : (c : Call) → ((s : ℕ) (q : Request) → c ≡ call.Issue s q → ⊥) → Fits (plain c .input)
 plain-fits c n = record { given = λ m. refl; content = tt; request = λ s q e. absurd (n s q e) }
 
-pub issuing-fits : (mark : ℕ) (locks content : List ℕ) → Bytes content → Fits (issuing mark locks content .input)
-issuing-fits mark locks content b =
+pub asking-fits : (client mark : ℕ) (locks content : List ℕ) → client < 2 ^ 32 → Bytes content → Fits (asking client mark locks content .input)
+asking-fits client mark locks content w b =
     record {
       given = λ m. absurd (true≢false (sym m));
       content = b;
       request = λ s q e.
-          let r : request mark ≡ q = cc in
-          rw (← r) (record { client = lit< tt; generation = lit< tt; partition = lit< tt; sequence = lit< tt; header = lit< tt });
+          let r : request client mark ≡ q = cc in
+          rw (← r) (record { client = w; generation = lit< tt; partition = lit< tt; sequence = lit< tt; header = lit< tt });
     }
+
+pub issuing-fits : (mark : ℕ) (locks content : List ℕ) → Bytes content → Fits (issuing mark locks content .input)
+issuing-fits mark locks content b = asking-fits gate mark locks content (lit< tt) b
 
 pub take : (s : ℕ) → Fits (plain (call.Take s Answered) .input)
 take s = plain-fits (call.Take s Answered) (λ t q e. let z : _≡_ {A = ℕ} 0 1 = cc in omega arith)

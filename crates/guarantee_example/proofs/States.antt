@@ -7,7 +7,7 @@ use lib.ListN.{replicate}
 use Rattle.locks.specs.Locks.{markedAll}
 use Rattle.cluster.specs.declared.Server.{Server}
 use Rattle.cluster.specs.State.{State, idleServer, tableSize}
-use Rattle.guarantee_example.proofs.Written.{three, register, server-0, server-1, holding, record-1, record-2, record-3, blank, slot-0, slot-1, slot-2}
+use Rattle.guarantee_example.proofs.Written.{three, register, server-0, server-1, holding, record-1, record-2, booking-3, blank, slot-0, slot-1, slot-2}
 
 -- a medium with these slots and places
 abbrev medium : List ℕ → List ℕ → List ℕ → List ℕ → List ℕ → List ℕ
@@ -49,7 +49,7 @@ state-2 =
 
 -- after part 3: the server recorded no more than 1 of replica 2, which holds 2
 abbrev last-0 : Server
-last-0 = server-0 (three false false false true) (three 0 3 2 1) 3 2 (holding 3 (record-1 ++ (record-2 ++ record-3)))
+last-0 = server-0 (three false false false true) (three 0 3 2 1) 3 2 (holding 3 (record-1 ++ (record-2 ++ booking-3)))
 
 abbrev locked : List ℕ
 locked = markedAll (markedAll table-2 (7 ∷ []) 2) (5 ∷ 9 ∷ 9 ∷ []) 3 ++ idle-tables
@@ -59,7 +59,7 @@ state-3 =
     record {
       records = record { register = register 1; servers = last-0 ∷ idleServer ∷ idleServer ∷ idleServer ∷ [] };
       media =
-          medium slot-0 slot-1 record-1 record-2 record-3
+          medium slot-0 slot-1 record-1 record-2 booking-3
           ++ (medium slot-0 slot-1 record-1 record-2 blank ++ medium slot-0 slot-1 record-1 record-2 blank);
       tables = locked;
     }
@@ -74,7 +74,7 @@ state-4 =
             servers = last-0 ∷ server-1 (three false true false true) (three 0 3 0 2) ∷ idleServer ∷ idleServer ∷ [];
           };
       media =
-          medium slot-2 slot-1 record-1 record-2 record-3
+          medium slot-2 slot-1 record-1 record-2 booking-3
           ++ (medium slot-0 slot-1 record-1 record-2 blank ++ medium slot-2 slot-1 record-1 record-2 blank);
       tables = locked;
     }

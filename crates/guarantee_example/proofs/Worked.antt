@@ -19,6 +19,7 @@ use Rattle.quorum.specs.Vote.{backed, majorityMark, decided}
 use Rattle.locks.specs.Locks.{markedAll, markedAt, placeOf, estimateOf, firstHeld}
 use Rattle.cluster.specs.declared.Shape.{Shape}
 use Rattle.cluster.specs.State.{State, freshMedia, fresh}
+use Rattle.limits.specs.Limits.{limitsOf}
 use Rattle.cluster.specs.Replies.{Reply}
 use Rattle.cluster.specs.Refusals.{outside, entriesFit, serverFits, markAbove, noSlot, promiseAbove, promiseDiffers, markDiffers, replicasFit, firstOf}
 use Rattle.cluster.specs.Effects.{prepareEffect, appendEffect, takeEffect, openedRegister, openedServer, openEffect, issueEffect, stopEffect}
@@ -32,7 +33,7 @@ use Rattle.guarantee_example.proofs.Outline.{Line, outline, outline-the
 unfoldable pub unfolded : ℕ
 unfolding
     outline changed step firstOf unless fresh freshMedia freshMedium
-    outside replicasFit markAbove entriesFit serverFits all upTo count highest
+    outside replicasFit markAbove entriesFit serverFits limitsOf all upTo count highest
     takeEffect prepareEffect openEffect openedRegister openedServer issueEffect appendEffect stopEffect
     noSlot promiseAbove promiseDiffers markDiffers backed majorityMark decided firstHeld markedAll markedAt placeOf estimateOf
     prepareWrites promising closing wipes wiped after allOf cutAt leave writeAt passes passesAsPlace

@@ -25,17 +25,30 @@ abbrev pub plain : Call → Element
 plain c = record { input = record { call = c; content = []; locks = []; given = replicate {A = ℕ} 64 0; stamp = noStamp; files = noFiles }; reader = 2 }
 
 -- an issue by server 0 for a client with this mark
-abbrev pub request : ℕ → Request
-request mark = record { mark = mark; client = 0; generation = 0; partition = 0; sequence = 0; header = 9 }
+abbrev pub request : ℕ → ℕ → Request
+request client mark = record { mark = mark; client = client; generation = 0; partition = 0; sequence = 0; header = 9 }
+
+abbrev pub asking : ℕ → ℕ → List ℕ → List ℕ → Element
+asking client mark locks content =
+    record { input = record { call = call.Issue 0 (request client mark); content = content; locks = locks; given = []; stamp = noStamp; files = noFiles }; reader = 0 }
+
+-- a gate's, and the booking system's
+abbrev pub gate : ℕ
+gate = 0
+
+abbrev pub bookings : ℕ
+bookings = 100
 
 abbrev pub issuing : ℕ → List ℕ → List ℕ → Element
-issuing mark locks content =
-    record { input = record { call = call.Issue 0 (request mark); content = content; locks = locks; given = []; stamp = noStamp; files = noFiles }; reader = 0 }
+issuing mark locks content = asking gate mark locks content
 
 abbrev pub value : ℕ → Reply
 value n = ok (n ∷ [])
 
 -- what a log has under an ID: the record was issued by the call of this number, counted from 0
+abbrev pub loggedFor : ℕ → ℕ → ℕ → ℕ → List ℕ → List ℕ → Logged
+loggedFor client id call mark locks content =
+    record { bytes = recordBytes (issuedFields id (request client mark)) content; transaction = record { call = call; locks = locks; mark = mark } }
+
 abbrev pub logged : ℕ → ℕ → ℕ → List ℕ → List ℕ → Logged
-logged id call mark locks content =
-    record { bytes = recordBytes (issuedFields id (request mark)) content; transaction = record { call = call; locks = locks; mark = mark } }
+logged id call mark locks content = loggedFor gate id call mark locks content

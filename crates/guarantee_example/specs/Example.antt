@@ -1,4 +1,4 @@
--- A list of 23 calls on three replicas with three places each, which one session may fill, in five parts, and what it comes to.
+-- A list of 24 calls on three replicas with three places each, which one session may fill, in five parts, and what it comes to.
 -- proofs/Example.antt: the replies and logs are those given here, the guarantee speaks of this list, and each of its conclusions says something.
 -- Assumes nothing.
 use mathlib.Core.List.{List, [], _∷_, _++_}
@@ -8,7 +8,7 @@ use Rattle.cluster.specs.declared.Shape.{Shape}
 use Rattle.cluster.specs.declared.Call.the-variants as call
 use Rattle.cluster.specs.Replies.{Reply, no, silent}
 use Rattle.guarantee.specs.History.{Element, Logged}
-use Rattle.guarantee_example.specs.Elements.{plain, issuing, value, logged}
+use Rattle.guarantee_example.specs.Elements.{plain, asking, bookings, issuing, value, loggedFor, logged}
 
 abbrev pub shape : Shape
 shape = record { replicas = 3; places = 3; interval = 3 }
@@ -35,8 +35,8 @@ calls-2 =
     ∷ []
 
 -- ID 2 has lock 7 too: its client has read ID 1, the lock's last writer. Its write on replica 2 is cut, with the new bytes left. A client that has read
--- no more asks for the same lock and is declined, since it does not know ID 2; it gets ID 3 with other locks (9 shares a place of the table with 7). ID 3
--- reaches replica 0 only.
+-- no more asks for the same lock and is declined, since it does not know ID 2. So is one that asks for three locks: it is a gate. The booking system, which
+-- shares the partition, gets ID 3 with them (9 shares a place of the table with 7). ID 3 reaches replica 0 only.
 abbrev pub calls-3 : List Element
 calls-3 =
     issuing 1 (7 ∷ []) []
@@ -45,6 +45,7 @@ calls-3 =
     ∷ plain (call.Send 0 2 (Cut 1 New))
     ∷ issuing 1 (7 ∷ []) []
     ∷ issuing 1 (5 ∷ 9 ∷ 9 ∷ []) []
+    ∷ asking bookings 1 (5 ∷ 9 ∷ 9 ∷ []) []
     ∷ plain (call.Send 0 0 Answered)
     ∷ []
 
@@ -78,7 +79,7 @@ abbrev pub replies-2 : List Reply
 replies-2 = value 1 ∷ value 0 ∷ value 1 ∷ value 1 ∷ []
 
 abbrev pub replies-3 : List Reply
-replies-3 = value 2 ∷ value 1 ∷ value 2 ∷ silent ∷ no 15 (7 ∷ 2 ∷ []) ∷ value 3 ∷ value 2 ∷ []
+replies-3 = value 2 ∷ value 1 ∷ value 2 ∷ silent ∷ no 15 (7 ∷ 2 ∷ []) ∷ no 12 [] ∷ value 3 ∷ value 2 ∷ []
 
 abbrev pub replies-4 : List Reply
 replies-4 = value 2 ∷ value 3 ∷ value 2 ∷ no 8 [] ∷ []
@@ -94,4 +95,4 @@ abbrev pub second : Logged
 second = logged 2 9 1 (7 ∷ []) []
 
 abbrev pub third : Logged
-third = logged 3 14 1 (5 ∷ 9 ∷ 9 ∷ []) []
+third = loggedFor bookings 3 15 1 (5 ∷ 9 ∷ 9 ∷ []) []

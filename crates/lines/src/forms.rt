@@ -126,7 +126,7 @@ fn request(line: &[u8]) -> Head
         server,
         Request {
             mark: mark,
-            client: 0,
+            client: 100,
             generation: generation,
             partition: 0,
             sequence: 0,

@@ -1,4 +1,4 @@
-// issue: a request gets the next ID, which goes into its locks' places.
+// issue: a request gets the next ID, which goes into its locks' places. It is shown for any pair of limits (`issue_under`) and used with the client's own.
 ghost use mathlib.Core.Path.{_≡_};
 ghost use mathlib.Core.List.{[], _∷_};
 ghost use Prim.Native.Nat.{_+_, _≤_, _<_, _^_};
@@ -9,9 +9,9 @@ ghost use Rattle.storage.specs.Places.{recordBytes};
 ghost use Rattle.cluster.specs.declared.Answer.the-variants.{Value};
 ghost use Rattle.cluster.specs.declared.Call.the-variants as call;
 ghost use Rattle.cluster.specs.State.{tableAt, withTable, heldAfter};
-ghost use Rattle.cluster.specs.Refusals.{onlyOpen, wrongPhase, row, firstOf, andThen, tooMuch, lockRow, requestRows};
+ghost use Rattle.cluster.specs.Refusals.{onlyOpen, wrongPhase, row, firstOf, andThen, lockRow, requestRows};
 ghost use Rattle.cluster.specs.Effects.{issuedFields, issuedServer};
-ghost use Rattle.cluster.specs.Step.{step};
+ghost use Rattle.cluster.specs.Step.{step, issueUnder};
 ghost use Rattle.checks.specs.Verdicts.{verdictOf};
 ghost use Rattle.checks.specs.Results.{noFiles, noStamp, stateOf, resultOf};
 use checks::Change;
@@ -29,23 +29,13 @@ use cluster::Server;
 use cluster::Shape;
 use cluster::TABLE;
 use cluster::WINDOW;
-use cluster::held::appended;
-use cluster::held::lags;
+use limits::Limits;
+use limits::exceeds;
+use limits::limits_of;
 use locks::LockTest;
+use servers::held::appended;
+use servers::held::lags;
 use storage::place::Fields;
-use storage::sizes::DATA_LIMIT;
-
-// Locks of a request. Its data may have as many bytes as a place has for them.
-const LOCK_LIMIT: usize = 4;
-
-fn exceeds(size: usize, locks: usize) -> bool
-    ensures { λ b. ⌜ b ≡ tooMuch size locks ⌝ }
-{
-    if DATA_LIMIT < size {
-        return true;
-    }
-    LOCK_LIMIT < locks
-}
 
 fn lock_check(t: LockTest) -> Check
     ensures { λ r. ⌜ verdictOf r ≡ firstOf (lockRow t ∷ []) ⌝ }
@@ -69,9 +59,10 @@ fn also_locks(k: Check, tables: &[u64], i: usize, locks: &[u64], client: u64) ->
     }
 }
 
-// 5 and issue's own refusals, in their order: of a request with so many bytes of data, by server i's record and lock table.
+// 5 and issue's own refusals, in their order: under a pair of limits, of a request with so many bytes of data, by server i's record and lock table.
 fn judge(
     shape: Shape,
+    limits: Limits,
     v: Server,
     request: Request,
     size: usize,
@@ -80,7 +71,7 @@ fn judge(
     locks: &[u64],
 ) -> Check
     requires { ⌜ (i < 4) × (length (now tables) ≡ 4096) ⌝ }
-    ensures { λ k. ⌜ verdictOf k ≡ firstOf (row 5 (wrongPhase onlyOpen v) ∷ requestRows shape v request size (tableAt i (now (tables .entry))) (now (locks .entry))) ⌝ }
+    ensures { λ k. ⌜ verdictOf k ≡ firstOf (row 5 (wrongPhase onlyOpen v) ∷ requestRows shape limits v request size (tableAt i (now (tables .entry))) (now (locks .entry))) ⌝ }
 {
     let p = v.phase;
     let phases = Phases {
@@ -99,7 +90,7 @@ fn judge(
         Refusal::OtherGeneration,
     );
     let k = also(k, v.acked < request.mark, Refusal::ClientAhead);
-    let k = also(k, exceeds(size, locks.len()), Refusal::TooMuch);
+    let k = also(k, exceeds(limits, size, locks.len()), Refusal::TooMuch);
     let k = also(k, many, Refusal::Unacknowledged);
     let k = also(k, full, Refusal::Full);
     let k = also(k, due, Refusal::CheckpointDue);
@@ -151,6 +142,39 @@ fn mark(tables: &mut [u64], i: usize, locks: &[u64], id: u64)
     locks::mark_all(&mut tables[at..end], locks, id);
 }
 
+// issue under a pair of limits that a place has room for.
+fn issue_under(
+    shape: Shape,
+    records: Records,
+    media: &[u8],
+    tables: &mut [u64],
+    server: u64,
+    request: Request,
+    content: &[u8],
+    locks: &[u64],
+    limits: Limits,
+) -> Outcome
+    requires { ⌜ limits .bytes ≤ dataLimit ⌝ }
+    ensures { λ o. ⌜ resultOf o (now (media .entry)) (now (tables .exit)) ≡ issueUnder limits shape (stateOf records (now (media .entry)) (now (tables .entry))) (record { call = call.Issue server request; content = now (content .entry); locks = now (locks .entry); given = []; stamp = noStamp; files = noFiles }) server request ⌝ }
+{
+    let k = checks::admit_server(shape, records, media.len(), tables.len(), server);
+    if let Check::Refuse(why) = k {
+        return checks::declined(records, why);
+    }
+    let i = server as usize;
+    let v = records.servers[i];
+    let k = judge(shape, limits, v, request, content.len(), tables, i, locks);
+    match k {
+        Check::Refuse(why) => checks::declined(records, why),
+        Check::Pass => {
+            let c = issued(v, request, content);
+            mark(tables, i, locks, v.issued + 1);
+            checks::settle(records, i, c)
+        }
+    }
+}
+
+// issue, under the pair that belongs to the client.
 pub fn issue(
     shape: Shape,
     records: Records,
@@ -163,19 +187,16 @@ pub fn issue(
 ) -> Outcome
     ensures { λ o. ⌜ resultOf o (now (media .entry)) (now (tables .exit)) ≡ step shape (stateOf records (now (media .entry)) (now (tables .entry))) (record { call = call.Issue server request; content = now (content .entry); locks = now (locks .entry); given = []; stamp = noStamp; files = noFiles }) ⌝ }
 {
-    let k = checks::admit_server(shape, records, media.len(), tables.len(), server);
-    if let Check::Refuse(why) = k {
-        return checks::declined(records, why);
-    }
-    let i = server as usize;
-    let v = records.servers[i];
-    let k = judge(shape, v, request, content.len(), tables, i, locks);
-    match k {
-        Check::Refuse(why) => checks::declined(records, why),
-        Check::Pass => {
-            let c = issued(v, request, content);
-            mark(tables, i, locks, v.issued + 1);
-            checks::settle(records, i, c)
-        }
-    }
+    let limits = limits_of(request.client);
+    issue_under(
+        shape,
+        records,
+        media,
+        tables,
+        server,
+        request,
+        content,
+        locks,
+        limits,
+    )
 }

@@ -13,6 +13,7 @@ use Rattle.quorum.specs.declared.Vote.{Vote}
 use Rattle.quorum.specs.declared.Vote.the-variants.{Undecided, Decided}
 use Rattle.quorum.specs.Vote.{backed, majorityMark, decided, voteOf}
 use Rattle.locks.specs.Locks.{placeOf, estimateOf, firstHeld}
+use Rattle.limits.specs.Limits.{limitsOf}
 use Rattle.cluster.specs.Refusals.{Verdict, pass, declined, firstOf}
 use Rattle.marked_examples.specs.Examples.{Example, vote, places, request, table, voteIn, placesOf, requestOn, Says}
 
@@ -83,7 +84,7 @@ each (y ∷ ys) e x m =
 
 -- the whole table, by computation
 computed : every table ≡ true
-unfolding every holds sameVote sameVerdict sameList firstOf voteOf decided majorityMark backed highest count placeOf estimateOf firstHeld
+unfolding every holds sameVote sameVerdict sameList firstOf voteOf decided majorityMark backed highest count placeOf estimateOf firstHeld limitsOf
 computed = refl
 
 pub examples : (x : Example) → List·Memᴰ x table → Says x

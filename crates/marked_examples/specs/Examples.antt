@@ -15,6 +15,7 @@ use Rattle.cluster.specs.declared.Phase.the-variants.{Open}
 use Rattle.cluster.specs.declared.Server.{Server}
 use Rattle.cluster.specs.declared.Request.{Request}
 use Rattle.cluster.specs.State.{idleServer}
+use Rattle.limits.specs.Limits.{limitsOf}
 use Rattle.cluster.specs.Refusals.{requestRows, Verdict, pass, firstOf}
 
 pub data Example : Type 0 where
@@ -85,10 +86,11 @@ serverAtMark n =
 abbrev pub requestAtMark : ℕ → Request
 requestAtMark n = record { mark = n; client = 0; generation = 0; partition = 0; sequence = 0; header = 0 }
 
--- issue's own refusals, of a cluster of 1,000 places, in which a session may issue as many IDs, and a request without data
+-- issue's own refusals, of a cluster of 1,000 places, in which a session may issue as many IDs, and a request without data, under its client's limits
 abbrev pub requestOn : ℕ → ℕ → ℕ → Verdict
 requestOn k entry client =
-    firstOf (requestRows (record { replicas = 1; places = 1000; interval = 1000 }) (serverAtMark client) (requestAtMark client) 0 (replicate 1024 entry) (k ∷ []))
+    let q = requestAtMark client in
+    firstOf (requestRows (record { replicas = 1; places = 1000; interval = 1000 }) (limitsOf (q .client)) (serverAtMark client) q 0 (replicate 1024 entry) (k ∷ []))
 
 abbrev pub Says : Example → Type 0
 Says (vote marks v) = voteIn marks ≡ v

@@ -208,7 +208,7 @@ fn opened(g: Register, v: Server, b: Ballot, r: usize, fate: Fate) -> Registered
     }
     Registered {
         register: next,
-        server: cluster::idle(),
+        server: servers::idle(),
         answer: Answer::Silent,
     }
 }

@@ -86,7 +86,7 @@ fn taken(g: Register, fate: Fate) -> Registered
     }
     Registered {
         register: next,
-        server: cluster::idle(),
+        server: servers::idle(),
         answer: Answer::Silent,
     }
 }

@@ -21,12 +21,12 @@ use cluster::Phases;
 use cluster::Records;
 use cluster::Server;
 use cluster::Shape;
-use cluster::held::record_of;
 use delivery::deliver;
 use delivery::plan::Kind;
 use delivery::plan::Plan;
 use delivery::plan::plan_of;
 use fate::Fate;
+use servers::held::record_of;
 use storage::sizes::Place;
 
 fn phases_of(kind: Kind) -> Phases

@@ -25,7 +25,6 @@ use cluster::Records;
 use cluster::Refusal;
 use cluster::Server;
 use cluster::Shape;
-use cluster::put_server;
 use crc32::Tables;
 use delivery::hear::no_mark;
 use delivery::hear::with_heard;
@@ -34,6 +33,7 @@ use delivery::plan::check_message;
 use delivery::span_of;
 use fate::Fate;
 use replica::Heard;
+use servers::put_server;
 use storage::sizes::Place;
 
 // 16: the ID is 0, above the replica's mark or above the acknowledged one.

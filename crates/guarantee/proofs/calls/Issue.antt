@@ -7,9 +7,8 @@ use mathlib.Core.List.{List}
 use Prim.Native.Nat.{ℕ, suc, _+_, _*_, _≤_, _<_}
 use native.Mathlib.Omega.{arith}
 use lib.ListN.{length, set}
-use lib.Dec.{ltb}
-use borrow.Author.Tests.{ltb-false, eqb-false}
-use Rattle.base.proofs.Tests.{lt-or-le, neither}
+use borrow.Author.Tests.{eqb-false}
+use Rattle.base.proofs.Tests.{lt-or-le}
 use Rattle.octets.proofs.Laws.{length-part}
 use Rattle.storage.specs.Sizes.{dataLimit, placeLayout, placeSize}
 use Rattle.storage.specs.Places.{placeNumbers, recordBytes, validPlace}
@@ -32,8 +31,9 @@ use Rattle.cluster.specs.declared.Server.{Server}
 use Rattle.cluster.specs.declared.Request.{Request}
 use Rattle.cluster.specs.declared.Call.the-variants as call
 use Rattle.cluster.specs.State.{State, serverAt, holds, recordOf, tableSize, tableAt, withTable}
-use Rattle.cluster.specs.Refusals.{lockLimit}
+use Rattle.limits.specs.Limits.{limitsOf}
 use Rattle.cluster.specs.Effects.{issuedFields, issuedServer, issueEffect}
+use Rattle.cluster.proofs.Limited.{has-room, fits-place}
 use Rattle.cluster.proofs.Locked.{aware}
 use Rattle.cluster.proofs.Window.{within, length-held, issued-newest, issued-older}
 use Rattle.cluster.proofs.Marks.{marks-fit}
@@ -108,7 +108,7 @@ module _ (h : Shape) (x : State) (H : History) (σ : protocol.State) (content lo
       omega (arith, marks-fit h (x .records) s (below-four s (B .passed 3)) (B .passed 2) .issued, eqb-false (v .issued) (h .places) (B .passed 14))
 
   short : length content ≤ dataLimit
-  short = ltb-false dataLimit (length content) (neither (ltb dataLimit (length content)) (ltb lockLimit (length locks)) (B .passed 12) .0)
+  short = fits-place (limitsOf (q .client)) (length content) (length locks) (has-room (q .client)) (B .passed 12)
 
   full : length (tx .bytes) ≡ placeSize
   unfolding recordBytes

@@ -6,9 +6,9 @@ use native.Mathlib.Omega.{arith}
 use lib.Dec.{ltb, leb}
 use borrow.Author.Needs.{needs}
 use borrow.Author.Tests.{leb-true, leb-false, lt-ltb, le-ltb, le-leb, lt-leb}
 use Rattle.cluster.specs.State.{window}
-use Rattle.cluster.proofs.held.holds.Statement.{statement}
-use Rattle.cluster.proofs.held.holds.Tie as tie
+use Rattle.servers.proofs.held.holds.Statement.{statement}
+use Rattle.servers.proofs.held.holds.Tie as tie
 
 not-leb : (a b : ℕ) → not (leb a b) ≡ ltb b a
 not-leb a b = go (leb a b) refl

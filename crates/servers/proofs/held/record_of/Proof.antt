@@ -5,8 +5,8 @@ use Rattle.octets.specs.Octets.{part}
 use Rattle.octets.proofs.Laws.{between-part}
 use Rattle.storage.specs.Sizes.{placeSize}
 use borrow.Author.Needs.{needs}
-use Rattle.cluster.proofs.held.record_of.Statement.{statement}
-use Rattle.cluster.proofs.held.record_of.Tie as tie
+use Rattle.servers.proofs.held.record_of.Statement.{statement}
+use Rattle.servers.proofs.held.record_of.Tie as tie
 
 offset-of-requires : tie.Need-offset-of-requires
 offset-of-requires c κs = search needs

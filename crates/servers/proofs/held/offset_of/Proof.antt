@@ -4,9 +4,9 @@ use borrow.Author.Needs.{needs}
 use borrow.Author.Tests.{leb-true, leb-false}
 use mathlib.Core.Path.{sym, _∙_}
 use Prim.Native.Nat.{_+_}
 use Rattle.cluster.specs.State.{window}
-use Rattle.cluster.proofs.held.offset_of.Statement.{statement}
-use Rattle.cluster.proofs.held.offset_of.Tie as tie
+use Rattle.servers.proofs.held.offset_of.Statement.{statement}
+use Rattle.servers.proofs.held.offset_of.Tie as tie
 
 returns : tie.Need-returns
 returns c = search needs

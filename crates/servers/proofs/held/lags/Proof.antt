@@ -5,8 +5,8 @@ use Prim.Native.Nat.{ℕ, _+_, _-_, _≤_}
 use native.Mathlib.Omega.{arith}
 use lib.Dec.{leb}
 use borrow.Author.Tests.{leb-true, leb-false, le-leb, lt-leb}
-use Rattle.cluster.proofs.held.lags.Statement.{statement}
-use Rattle.cluster.proofs.held.lags.Tie as tie
+use Rattle.servers.proofs.held.lags.Statement.{statement}
+use Rattle.servers.proofs.held.lags.Tie as tie
 
 difference : (count mark issued : ℕ) → mark ≤ issued → leb count (issued - mark) ≡ leb (mark + count) issued
 difference count mark issued l = go (leb (mark + count) issued) refl

@@ -1,4 +1,4 @@
--- `held::appended`: the others are copied first, and the newest is encoded behind them (proofs/Window `in-place`).
+-- `held::appended`: the others are copied first, and the newest is encoded behind them (cluster proofs/Window `in-place`).
 use mathlib.Core.Path.{_≡_, sym, ap, _∙_}
 use mathlib.Core.List.{List, _++_}
 use Prim.Native.Nat.{ℕ, _-_, _≤_}
@@ -8,10 +8,10 @@ use lib.Seq.{take-all}
 use borrow.Author.Needs.{needs}
 use Rattle.storage.specs.Sizes.{placeSize}
 use Rattle.storage.specs.Places.{recordBytes}
 use Rattle.cluster.specs.State.{heldSize}
 use Rattle.cluster.proofs.Window.{in-place}
-use Rattle.cluster.proofs.held.appended.Statement.{statement}
-use Rattle.cluster.proofs.held.appended.Tie as tie
+use Rattle.servers.proofs.held.appended.Statement.{statement}
+use Rattle.servers.proofs.held.appended.Tie as tie
 
 -- behind the others there is room for the newest
 room : (others held : List ℕ) → length others ≡ heldSize - placeSize → length held ≡ heldSize → heldSize ≤ length (others ++ drop (heldSize - placeSize) held)

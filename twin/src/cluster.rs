@@ -4,11 +4,13 @@ mod call;
 mod checks;
 mod export;
 mod issue;
+mod limits;
 mod register_calls;
 mod replica_calls;
 mod reply;
 mod state;
 
 pub use call::{Call, Message, Request};
+pub use limits::{Limits, BOOKING, FIRST_BOOKING_CLIENT, GATE};
 pub use reply::{first_row, Answer, Refusal, Reply, BY_RECEIVER, FILES_ROW, ORDER};
 pub use state::{Cluster, Entry, Phase, Records, Register, Server, Shape, Standing, HELD, SERVERS};

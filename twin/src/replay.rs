@@ -37,10 +37,12 @@
 //! digits): of the records (see `sums`), of the media and of the lock tables as lent; and behind an
 //! export those of data and index file. A line that fits no form prints bad.
 
+mod calls;
 mod counts;
 mod export_scenes;
 mod exports;
 mod in_flight;
+mod limits;
 mod list;
 mod locks;
 mod names;
@@ -54,7 +56,7 @@ mod texts;
 use crate::random::Random;
 
 pub use counts::{Counts, CALLS};
-pub use names::{ENDS, ESTIMATES, FATES, INTERVALS, UNSENT};
+pub use names::{AMOUNTS, CLIENTS, ENDS, ESTIMATES, FATES, INTERVALS, UNSENT};
 
 /// The stored run: its lines, what they print, and what it meets.
 pub struct Run {

@@ -1,6 +1,6 @@
 //! Calls and states to try: lists of calls that get somewhere, scenes with faults, issue around the
-//! interval and around the client's mark, send and issue around what is held, exports with files of
-//! any length, imports of pairs whole and spoilt, random states.
+//! interval, around the client's mark and around its limits, send and issue around what is held, exports
+//! with files of any length, imports of pairs whole and spoilt, random states.
 
 pub mod caller;
 pub mod checkpoint;
@@ -10,6 +10,7 @@ pub mod faults;
 pub mod import_rows;
 pub mod imports;
 pub mod in_flight;
+pub mod limits;
 pub mod scene;
 pub mod states;
 pub mod useful;

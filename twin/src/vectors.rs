@@ -35,6 +35,7 @@
 mod answers;
 mod cases;
 mod fields;
+mod gates;
 mod published;
 mod segments;
 

@@ -1,11 +1,11 @@
 //! The stored run of the replay program is what this implementation gives, and it meets every call,
-//! refusal, fate and kind of interval, locks on both sides of the client's mark, every end of an
-//! exported log, and every number of records in flight.
+//! refusal, fate and kind of interval, gates and booking clients on both sides of their limits, locks on
+//! both sides of the client's mark, every end of an exported log, and every number of records in flight.
 
 mod stored;
 
 use twin::cluster::{first_row, FILES_ROW, ORDER};
-use twin::replay::{self, CALLS, ENDS, ESTIMATES, FATES, INTERVALS, UNSENT};
+use twin::replay::{self, AMOUNTS, CALLS, CLIENTS, ENDS, ESTIMATES, FATES, INTERVALS, UNSENT};
 
 /// Calls without a message, and those whose message goes to the register.
 const LOCAL: [&str; 3] = ["issue", "stop", "reassign"];
@@ -99,6 +99,22 @@ fn sessions_are_opened_after_the_interval_asks_for_one() {
     let counts = replay::run().counts;
     assert!(counts.refused("issue", first_row(23)) > 50);
     assert!(counts.forced() > 20);
+}
+
+/// Each kind of client asks for all that either pair tells apart: of data, of locks and of both. What lies
+/// between the pairs, a gate is declined and a booking client is granted.
+#[test]
+fn gates_and_booking_clients_ask_for_what_either_may_have() {
+    let counts = replay::run().counts;
+    let met = CLIENTS.map(|client| AMOUNTS.map(|amount| counts.amount(client, amount)));
+    assert!(met.iter().flatten().all(|&count| count > 0), "{met:?}");
+    let [gate, booking] = met;
+    assert!(gate[0] > 50 && booking[..4].iter().sum::<u64>() > 100, "{met:?}");
+    assert!(gate[1] > 10 && gate[2] > 10 && booking[1] > 10 && booking[2] > 10, "{met:?}");
+    let declined = gate[1..].iter().chain(&booking[4..]).sum::<u64>();
+    assert_eq!(declined, counts.refused("issue", first_row(12)));
+    let granted = gate[0] + booking[..4].iter().sum::<u64>();
+    assert_eq!(granted, counts.ok("issue"));
 }
 
 /// One way or the other, most of these requests are decided by one.

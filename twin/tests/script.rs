@@ -3,6 +3,8 @@
 use std::io::Write;
 use std::process::{Command, Stdio};
 
+use twin::cluster::HELD;
+use twin::medium::{place, Record};
 use twin::random::Random;
 use twin::script::{run, Program, LINE_LIMIT};
 
@@ -177,6 +179,41 @@ fn data_and_locks_up_to_their_limits() {
     let many_locks = issue(0) + &"\t7".repeat(240);
     assert!(many_locks.len() <= LINE_LIMIT);
     assert_eq!(after_opening(many_locks.as_bytes()), b"no\t12");
+}
+
+/// "the script fills in client 100"; partition and sequence are 0 as before. The record as it is held, and
+/// as a replica stores it.
+#[test]
+fn issue_fills_in_client_100() {
+    let mut program = Program::default();
+    let lines = "cluster\t3\t4\ntake\t0\t0\nprep\t0\t0\t0\nprep\t0\t1\t0\nopen\t0\t0\n\
+        issue\t0\t0\t0\t9\tABCD\t1\t2\nsend\t0\t0\t0\n";
+    program.feed(lines.as_bytes(), &mut Vec::new());
+    let cluster = program.cluster().expect("an accepted cluster line");
+    let (client, generation, partition, sequence, header) = (100, 0, 0, 0, 9);
+    let data = &[0xAB, 0xCD];
+    let record = Record { id: 1, client, generation, partition, sequence, header, data };
+    for bytes in [cluster.records.servers[0].held[HELD - 1], place(cluster.medium(0), 1)] {
+        assert_eq!(Record::decode(1, &bytes), Some(record));
+        assert_eq!(
+            bytes[8..32],
+            [0, 0, 0, 100, 0, 0, 0, 0, 0, 0, 0, 0, 0, 0, 0, 0, 0, 0, 0, 9, 0, 0, 0, 2]
+        );
+    }
+}
+
+/// What a gate may not send, a script may: it is never one.
+#[test]
+fn a_script_is_no_gate() {
+    let issue = |data: usize, locks: usize| {
+        format!("issue\t0\t0\t0\t9\t{}{}", "5a".repeat(data), "\t7".repeat(locks))
+    };
+    for (data, locks) in [(13, 0), (13, 2), (0, 2), (12, 4), (28, 4)] {
+        assert_eq!(after_opening(issue(data, locks).as_bytes()), b"ok\t1", "{data}, {locks}");
+    }
+    for (data, locks) in [(29, 0), (0, 5), (29, 5)] {
+        assert_eq!(after_opening(issue(data, locks).as_bytes()), b"no\t12", "{data}, {locks}");
+    }
 }
 
 #[test]

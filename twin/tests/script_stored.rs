@@ -43,6 +43,26 @@ fn stored_input_asks_for_a_lock_on_both_sides_of_the_clients_mark() {
     assert_eq!(script::run(lines), replies);
 }
 
+/// Requests that a gate may not send: the script is none, so that they are granted.
+#[test]
+fn stored_input_has_what_no_gate_may_send() {
+    let (input, output) =
+        (stored::bytes("crates/script/stdin"), stored::text("crates/script/stdout"));
+    let lines = input.split(|&byte| byte == b'\n').zip(output.lines());
+    let granted =
+        lines.filter(|(line, reply)| line.starts_with(b"issue\t") && reply.starts_with("ok\t"));
+    let amounts = granted.map(|(line, _)| {
+        let fields: Vec<&[u8]> = line.split(|&byte| byte == b'\t').collect();
+        (fields[5].len() / 2, fields.len() - 6)
+    });
+    let amounts: Vec<(usize, usize)> = amounts.collect();
+    let count = |such: fn(&(usize, usize)) -> bool| amounts.iter().filter(|it| such(it)).count();
+    assert!(count(|(data, locks)| *data > 12 && *locks <= 1) > 10);
+    assert!(count(|(data, locks)| *data <= 12 && *locks > 1) > 10);
+    assert!(amounts.iter().any(|(data, _)| *data == 28));
+    assert!(amounts.iter().any(|(_, locks)| *locks == 4));
+}
+
 /// Eight records in flight and no ninth until one is acknowledged, a member that is sent nothing any
 /// more and copied to, and a server that is overtaken with records in flight.
 #[test]

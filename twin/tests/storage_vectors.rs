@@ -54,6 +54,31 @@ fn imports_meet_every_answer() {
     assert!(counts["no 24"] > 3 * 128 && counts["no 1"] > 128);
 }
 
+/// The last lines: two records of gates, one with 13 bytes of data and one with 28, are written, are
+/// valid and make a log; they come to a pair of files and back as any others do.
+#[test]
+fn storage_knows_no_limit_of_gates() {
+    let input = vectors::input();
+    let lines: Vec<&str> = input.lines().collect();
+    let lines = &lines[lines.len() - 7..];
+    let answers = lines.iter().map(|line| vectors::output(line));
+    let words = |text: &str, count: usize| -> Vec<String> {
+        text.trim_end().split('\t').take(count).map(String::from).collect()
+    };
+    let answers: Vec<Vec<String>> =
+        answers.zip([1, 9, 1, 9, 3, 2, 1]).map(|(answer, count)| words(&answer, count)).collect();
+    let field = |line: usize, index: usize| lines[line].split('\t').nth(index).expect("a field");
+    for (record, client, length) in [(0, "99", "13"), (2, "0", "28")] {
+        assert_eq!(field(record, 2), client);
+        assert_eq!(field(record + 1, 2), answers[record][0]);
+        assert_eq!(answers[record + 1][..3], ["1", field(record, 1), client]);
+        assert_eq!(answers[record + 1][7..], [length, field(record, 7)]);
+    }
+    assert_eq!(answers[4], ["2", "0", "0"]);
+    assert_eq!([field(6, 5), field(6, 6)], [&answers[5][0], &answers[5][1]]);
+    assert_eq!(answers[6], ["ok"]);
+}
+
 /// A field is missing or too much, or is not what it should be; or the line is too long.
 #[test]
 fn lines_that_fit_no_form_are_bad() {

@@ -1,11 +1,8 @@
 //! issue: gives a request the next ID.
 
-use super::{Answer, Cluster, Phase, Refusal, Reply, Request, HELD};
+use super::{Answer, Cluster, Limits, Phase, Refusal, Reply, Request, HELD};
 use crate::locks::{first_conflict, write_locks};
-use crate::medium::{Record, DATA_LIMIT};
-
-/// The most locks that a request names.
-const LOCK_LIMIT: usize = 4;
+use crate::medium::Record;
 
 impl Cluster {
     /// Makes the request the newest record held and writes its ID at its locks; answers the ID.
@@ -30,13 +27,13 @@ impl Cluster {
         Ok(Answer::Number(id))
     }
 
-    /// 10 to 14, 23 and 15. All locks are judged on the table as it is before any is written.
+    /// 10 to 14, 23 and 15. 12 "reads the pair that belongs to the client". All locks are judged on the
+    /// table as it is before any is written.
     fn check_request(&self, server: usize, request: &Request) -> Result<(), Refusal> {
         let record = &self.records.servers[server];
         Refusal::OtherGeneration.when(request.generation != record.generation)?;
         Refusal::ClientAhead.when(request.client_mark > record.acknowledged)?;
-        let too_much = request.data.len() > DATA_LIMIT || request.locks.len() > LOCK_LIMIT;
-        Refusal::TooMuch.when(too_much)?;
+        Refusal::TooMuch.when(Limits::of(request.client).are_exceeded(request))?;
         Refusal::Unacknowledged.when(record.unacknowledged() >= HELD as u64)?;
         Refusal::Full.when(record.issued == self.shape.places)?;
         Refusal::CheckpointDue.when(self.is_checkpoint_due(server))?;

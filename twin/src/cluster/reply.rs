@@ -36,7 +36,7 @@ pub enum Refusal {
     TooFewClean,
     OtherGeneration,
     ClientAhead,
-    /// Data or locks.
+    /// Data or locks, more than the client may send.
     TooMuch,
     /// Eight or more records.
     Unacknowledged,

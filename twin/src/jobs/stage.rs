@@ -31,12 +31,12 @@ pub fn prepare_all(cluster: &mut Cluster, server: u64) {
     }
 }
 
-/// Server 0 issues the next record: 28 bytes of data and no lock; its ID. Data differ from record to
-/// record, so that no scan profits from zeros.
+/// Server 0 issues the next record: 28 bytes of data, which a booking client may send, and no lock; its
+/// ID. Data differ from record to record, so that no scan profits from zeros.
 pub fn issue(cluster: &mut Cluster) -> u64 {
     let first = cluster.records.servers[0].issued as u8;
     let request = Request {
-        client: 1,
+        client: 100,
         partition: 2,
         sequence: 3,
         header: 4,

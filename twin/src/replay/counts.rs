@@ -1,12 +1,12 @@
-//! What a run meets: replies of each call, fates, intervals, locks around the client's mark, ends of
-//! exported logs, and records in flight.
+//! What a run meets: replies of each call, fates, intervals, what gates and booking clients ask for, locks
+//! around the client's mark, ends of exported logs, and records in flight.
 
 use std::collections::BTreeMap;
 use std::fmt;
 
-use super::names::{end_name, estimate_name, fate_name, fate_of, interval_name};
+use super::names::{amount_name, end_name, estimate_name, fate_name, fate_of, interval_name};
 use super::names::{in_flight, sent_index, unsent_name};
-use super::names::{ENDS, ESTIMATES, FATES, INTERVALS, UNSENT};
+use super::names::{AMOUNTS, CLIENTS, ENDS, ESTIMATES, FATES, INTERVALS, UNSENT};
 use super::texts::word;
 use crate::cluster::{Answer, Call, Cluster, Refusal, Reply, HELD, ORDER};
 
@@ -26,6 +26,8 @@ pub struct Counts {
     fates: BTreeMap<(&'static str, &'static str, u64), u64>,
     /// By call and K, where K alone decides about refusal 1.
     intervals: BTreeMap<(&'static str, &'static str), u64>,
+    /// Requests granted or declined by 12, by the kind of client and what it asks for.
+    amounts: BTreeMap<(&'static str, &'static str), u64>,
     /// Requests that locks alone decide about.
     estimates: BTreeMap<&'static str, u64>,
     /// Segments that were written.
@@ -58,6 +60,15 @@ impl Counts {
         if let Some(name) = interval_name(cluster) {
             *self.intervals.entry((word, name)).or_default() += 1;
         }
+        self.add_names(cluster, call, reply);
+        self.add_change(call, reply);
+    }
+
+    /// What only one of the calls is counted as.
+    fn add_names(&mut self, cluster: &Cluster, call: &Call, reply: &Reply) {
+        if let Some(names) = amount_name(call, reply) {
+            *self.amounts.entry(names).or_default() += 1;
+        }
         if let Some(name) = estimate_name(cluster, call, reply) {
             *self.estimates.entry(name).or_default() += 1;
         }
@@ -73,7 +84,6 @@ impl Counts {
         if let Some(name) = unsent_name(cluster, call, reply) {
             *self.unsent.entry(name).or_default() += 1;
         }
-        self.add_change(call, reply);
     }
 
     fn add_change(&mut self, call: &Call, reply: &Reply) {
@@ -128,6 +138,12 @@ impl Counts {
         counted.map(|(_, count)| count).sum()
     }
 
+    /// How many requests of this kind of client asked for so much, and were granted or declined by 12.
+    pub fn amount(&self, client: &str, amount: &str) -> u64 {
+        let counted = self.amounts.iter().filter(|(key, _)| **key == (client, amount));
+        counted.map(|(_, count)| count).sum()
+    }
+
     /// How many requests had their greatest estimate there, and were granted or declined by 15.
     pub fn estimate(&self, name: &str) -> u64 {
         self.estimates.get(name).copied().unwrap_or(0)
@@ -165,8 +181,8 @@ impl Counts {
 }
 
 /// A table of replies by call, in which 1 stands once more behind 20 (the lengths of export's files); one
-/// of fates and one of K by call, one of estimates, one of ends, what was in flight and held, and the
-/// writes that were cut.
+/// of fates and one of K by call, one of what clients ask for, one of estimates, one of ends, what was in
+/// flight and held, and the writes that were cut.
 impl fmt::Display for Counts {
     fn fmt(&self, f: &mut fmt::Formatter<'_>) -> fmt::Result {
         write!(f, "{:9}{:>6}{:>7}", "call", "ok", "silent")?;
@@ -178,18 +194,12 @@ impl fmt::Display for Counts {
         write!(f, "\n\n{:9}", "K")?;
         INTERVALS.iter().try_for_each(|interval| write!(f, "{interval:>12}"))?;
         CALLS.iter().try_for_each(|call| self.write_intervals(f, call))?;
-        write!(f, "\n\n{:9}", "estimate")?;
-        ESTIMATES.iter().try_for_each(|name| write!(f, "{name:>12}"))?;
-        write!(f, "\n{:9}", "issue")?;
-        ESTIMATES.iter().try_for_each(|name| write!(f, "{:>12}", self.estimate(name)))?;
-        write!(f, "\n\n{:9}", "end")?;
-        ENDS.iter().try_for_each(|name| write!(f, "{name:>13}"))?;
-        write!(f, "\n{:9}", "export")?;
-        ENDS.iter().try_for_each(|name| write!(f, "{:>13}", self.end(name)))?;
-        write!(f, "\n\n{:9}", "unsent")?;
-        UNSENT.iter().try_for_each(|name| write!(f, "{name:>12}"))?;
-        write!(f, "\n{:9}", "send")?;
-        UNSENT.iter().try_for_each(|name| write!(f, "{:>12}", self.unsent(name)))?;
+        write!(f, "\n\n{:9}", "client")?;
+        AMOUNTS.iter().try_for_each(|amount| write!(f, "{amount:>12}"))?;
+        CLIENTS.iter().try_for_each(|client| self.write_amounts(f, client))?;
+        write_table(f, "estimate", "issue", &ESTIMATES, |name| self.estimate(name))?;
+        write_table(f, "end", "export", &ENDS, |name| self.end(name))?;
+        write_table(f, "unsent", "send", &UNSENT, |name| self.unsent(name))?;
         writeln!(f)?;
         write!(f, "\nissued with 0 to 7 in flight {:?}", self.in_flight)?;
         write!(f, "\nsent from index 0 to 7 {:?}", self.sent)?;
@@ -211,8 +221,27 @@ impl Counts {
         FATES.iter().try_for_each(|fate| write!(f, "{:>12}", self.fate(call, fate)))
     }
 
+    fn write_amounts(&self, f: &mut fmt::Formatter<'_>, client: &str) -> fmt::Result {
+        write!(f, "\n{client:9}")?;
+        AMOUNTS.iter().try_for_each(|amount| write!(f, "{:>12}", self.amount(client, amount)))
+    }
+
     fn write_intervals(&self, f: &mut fmt::Formatter<'_>, call: &str) -> fmt::Result {
         write!(f, "\n{call:9}")?;
         INTERVALS.iter().try_for_each(|name| write!(f, "{:>12}", self.interval(call, name)))
     }
+}
+
+/// A table of one line, of one call.
+fn write_table(
+    f: &mut fmt::Formatter<'_>,
+    title: &str,
+    call: &str,
+    names: &[&str],
+    count: impl Fn(&str) -> u64,
+) -> fmt::Result {
+    write!(f, "\n\n{title:9}")?;
+    names.iter().try_for_each(|name| write!(f, "{name:>13}"))?;
+    write!(f, "\n{call:9}")?;
+    names.iter().try_for_each(|name| write!(f, "{:>13}", count(name)))
 }

@@ -1,5 +1,6 @@
 //! Eight in flight (document 02, No. 5): a list call by call, and states around what is held.
 
+use super::calls::{check, copy, open, prepare, send, take};
 use super::recorder::Recorder;
 use super::scenes::try_scene;
 use crate::cluster::{Answer, Call, Message, Phase, Request, Shape, HELD};
@@ -28,52 +29,20 @@ pub fn list(recorder: &mut Recorder) {
         (issue(0, 1, 9), Ok(9)),
         (issue(0, 1, 10), Err(13)),
         (send(0, 2), Err(16)),
-        (Call::Copy { server: 0, from: 0, to: 2, message: message() }, Ok(1)),
+        (copy(0, 0, 2), Ok(1)),
         (send(0, 2), Ok(2)),
         (send(0, 1), Ok(2)),
     ]);
-    for (call, reply) in calls {
-        assert_eq!(number(recorder, &call), reply, "{call:?}");
-    }
+    check(recorder, calls);
     assert_eq!(recorder.call(&Call::Stop { server: 0 }), Ok(Answer::Nothing));
     let marks = [3, 2, 2];
     let found = prepares(1).zip(marks).map(|(call, mark)| (call, Ok(mark)));
-    for (call, reply) in [(take(1), Ok(2))].into_iter().chain(found).chain([(open(1), Ok(2))]) {
-        assert_eq!(number(recorder, &call), reply, "{call:?}");
-    }
-}
-
-fn number(recorder: &mut Recorder, call: &Call) -> Result<u64, u64> {
-    match recorder.call(call) {
-        Ok(Answer::Number(value)) => Ok(value),
-        Ok(other) => panic!("{call:?}: {other:?}"),
-        Err(refusal) => Err(refusal.number()),
-    }
-}
-
-fn message() -> Message {
-    Message::new(Fate::Answered)
-}
-
-fn take(server: u64) -> Call {
-    Call::Take { server, fate: Fate::Answered }
-}
-
-fn prepare(server: u64, replica: u64) -> Call {
-    Call::Prepare { server, replica, message: message() }
-}
-
-fn open(server: u64) -> Call {
-    Call::Open { server, fate: Fate::Answered }
+    check(recorder, [(take(1), Ok(2))].into_iter().chain(found).chain([(open(1), Ok(2))]));
 }
 
 fn issue(server: u64, client_mark: u64, byte: u8) -> Call {
     let request = Request { client_mark, header: 9, data: vec![byte], ..Request::default() };
     Call::Issue { server, request }
-}
-
-fn send(server: u64, replica: u64) -> Call {
-    Call::Send { server, replica, message: message() }
 }
 
 /// States that are handed in.

@@ -1,7 +1,7 @@
 //! The list of states and calls of a run.
 
 use super::recorder::Recorder;
-use super::{exports, in_flight, locks, random_states, scenes, Run};
+use super::{exports, in_flight, limits, locks, random_states, scenes, Run};
 use crate::cluster::{Call, Cluster, Shape};
 use crate::fate::Fate;
 use crate::hex;
@@ -36,6 +36,8 @@ pub fn replay(random: &mut Random) -> Run {
     locks::list(&mut recorder);
     exports::list(&mut recorder);
     in_flight::list(&mut recorder);
+    limits::list(&mut recorder);
+    limits::replay(&mut recorder);
     scenes::replay(&mut recorder, random);
     in_flight::replay(&mut recorder);
     for (replicas, places, interval) in (0..LISTS).flat_map(|_| SHAPES) {

@@ -49,10 +49,11 @@ fn store(recorder: &mut Recorder, server: u64) {
     }
 }
 
-/// One byte of data.
+/// One byte of data; a client that may ask for several locks.
 fn ask(server: u64, client_mark: u64, byte: u8, locks: &[u64]) -> Call {
     let (data, locks) = (vec![byte], locks.to_vec());
-    let request = Request { client_mark, header: 9, data, locks, ..Request::default() };
+    let (client, header) = (100, 9);
+    let request = Request { client_mark, client, header, data, locks, ..Request::default() };
     Call::Issue { server, request }
 }
 

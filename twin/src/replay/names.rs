@@ -1,9 +1,10 @@
-//! What a call is counted as: its fate, K beside N, its locks beside the client's mark, the end of what it
-//! exports, records in flight, which held record it sends or why none.
+//! What a call is counted as: its fate, K beside N, how much a client asks for, its locks beside the
+//! client's mark, the end of what it exports, records in flight, which held record it sends or why none.
 
 use std::cmp::Ordering;
 
-use crate::cluster::{Answer, Call, Cluster, Refusal, Reply, Shape, HELD};
+use crate::cluster::{Answer, Call, Cluster, Limits, Refusal, Reply, Request, Shape};
+use crate::cluster::{BOOKING, GATE, HELD};
 use crate::fate::{Fate, Left};
 use crate::tries::clients::needed_mark;
 
@@ -11,6 +12,14 @@ pub const FATES: [&str; 6] = ["answered", "lost", "answer lost", "cut old", "cut
 
 /// What K can be beside N; "1" and "between" are below N.
 pub const INTERVALS: [&str; 6] = ["0", "1", "between", "N", "N + 1", "above"];
+
+/// The two kinds of clients.
+pub const CLIENTS: [&str; 2] = ["gate", "booking"];
+
+/// Which limit a request exceeds, the greater pair's before the lesser's. A gate is granted the first of
+/// these alone, a booking client the first four.
+pub const AMOUNTS: [&str; 7] =
+    ["within", "> 12 bytes", "> 1 lock", "> 12 and 1", "> 28 bytes", "> 4 locks", "> 28 and 4"];
 
 /// Where the greatest estimate of a request's locks lies beside the client's mark. Up to "at" the
 /// request is granted.
@@ -62,6 +71,26 @@ pub fn interval_name(cluster: &Cluster) -> Option<&'static str> {
         1 => "1",
         _ => "between",
     })
+}
+
+/// The kind of client and how much it asks for; `None` unless it is granted, or 12 declines it.
+pub fn amount_name(call: &Call, reply: &Reply) -> Option<(&'static str, &'static str)> {
+    let (Call::Issue { request, .. }, Ok(_) | Err(Refusal::TooMuch)) = (call, reply) else {
+        return None;
+    };
+    let kind = usize::from(Limits::of(request.client) != GATE);
+    let amount = match exceeded(BOOKING, request) {
+        0 => exceeded(GATE, request),
+        above => 3 + above,
+    };
+    Some((CLIENTS[kind], AMOUNTS[amount]))
+}
+
+/// 1 for data, 2 for locks, 3 for both; 0 for neither.
+fn exceeded(limits: Limits, request: &Request) -> usize {
+    let [data, locks] =
+        [request.data.len() > limits.data, request.locks.len() > limits.locks].map(usize::from);
+    data + 2 * locks
 }
 
 /// `None` unless the request names a lock and nothing else stands in its way.

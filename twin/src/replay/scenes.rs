@@ -4,7 +4,7 @@
 use std::ops::RangeInclusive;
 
 use super::recorder::Recorder;
-use super::{export_scenes, locks};
+use super::{export_scenes, limits, locks};
 use crate::cluster::{Call, Entry, Message, Standing};
 use crate::fate::{Fate, Left};
 use crate::medium::{
@@ -36,7 +36,9 @@ fn particular(recorder: &mut Recorder, random: &mut Random, scene: &Scene) {
         }
         Kind::OpeningCopy => joined(recorder, scene),
         Kind::Trim => cut_each(recorder, random, scene, 1..=3),
-        Kind::Issue => {
+        Kind::GateIssue => limits::in_place(recorder, scene),
+        Kind::BookingIssue => {
+            limits::in_place(recorder, scene);
             locks::replay(recorder, random, scene);
             ahead(recorder, scene);
             Checkpoint::all().for_each(|checkpoint| try_scene(recorder, checkpoint.scene()));
@@ -65,7 +67,7 @@ fn under_every_fate(recorder: &mut Recorder, scene: &Scene) {
 fn with_the_least_interval(recorder: &mut Recorder, scene: &Scene) {
     let mut scene = scene.clone();
     scene.cluster.shape.interval = 1;
-    if scene.kind == Kind::Issue {
+    if matches!(scene.kind, Kind::GateIssue | Kind::BookingIssue) {
         let server = &mut scene.cluster.records.servers[SERVER];
         server.starting = server.issued;
     }
@@ -75,7 +77,7 @@ fn with_the_least_interval(recorder: &mut Recorder, scene: &Scene) {
 /// The fates that a call can have: the register is never cut, and three calls send no message.
 fn fates_of(kind: Kind) -> Vec<Fate> {
     let mut fates = vec![Fate::Answered];
-    if !matches!(kind, Kind::Issue | Kind::Stop | Kind::Reassign) {
+    if !matches!(kind, Kind::GateIssue | Kind::BookingIssue | Kind::Stop | Kind::Reassign) {
         fates.extend([Fate::Lost, Fate::AnswerLost]);
         if !matches!(kind, Kind::Take | Kind::Open) {
             fates.extend(cuts(1..=3));

@@ -6,6 +6,10 @@ use crate::decimal::number;
 use crate::fate::Fate;
 use crate::hex;
 
+/// What the script fills in as client (document 02, No. 6): the first of the booking system, so that its
+/// requests are never a gate's. Partition and sequence stay 0.
+const CLIENT: u32 = 100;
+
 /// What a line that fits a form asks for.
 #[derive(Debug, PartialEq, Eq)]
 pub enum Form {
@@ -73,7 +77,8 @@ impl<'a, I: Iterator<Item = &'a [u8]>> Fields<I> {
         let header = self.word()?;
         let data = hex::decode(self.next()?)?;
         let locks = self.0.by_ref().map(number).collect::<Option<Vec<u64>>>()?;
-        Some(Request { client_mark, generation, header, data, locks, ..Request::default() })
+        let (client, partition, sequence) = (CLIENT, 0, 0);
+        Some(Request { client_mark, client, generation, partition, sequence, header, data, locks })
     }
 
     fn number(&mut self) -> Option<u64> {

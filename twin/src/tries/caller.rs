@@ -2,6 +2,7 @@
 
 use super::clients::draw_mark;
 use super::exports::draw_export;
+use super::limits::{draw_client, draw_count, draw_data};
 use crate::cluster::{Call, Cluster, Message, Phase, Request, Server, Standing};
 use crate::fate::{Fate, Left};
 use crate::medium::{Slot, PLACE_BYTES};
@@ -177,24 +178,27 @@ fn draw_usable(random: &mut Random, cluster: &Cluster, server: u64) -> u64 {
     }
 }
 
-/// Few locks, so that they collide, and clients that have read just as much as is asked of them, or a
-/// little less.
+/// Few locks, so that they collide, and clients of either kind that have read just as much as is asked of
+/// them, or a little less.
 fn draw_request(random: &mut Random, cluster: &Cluster, server: u64) -> Request {
     let record = &cluster.records.servers[server as usize];
+    let client = draw_client(random);
     let ahead = random.chance(40);
-    let length = if random.chance(60) { 29 } else { 1 };
-    let count = match random.below(4) {
+    let data = if random.chance(3) { draw_data(random, client) } else { random.bytes(1) };
+    let wanted = match random.below(4) {
         0 => 0,
         _ => 1 + random.below(3) + u64::from(random.chance(20)) * 2,
     };
+    let count = draw_count(random, client, wanted as usize);
     let kinds = *random.pick(&[2, 6]);
     let locks: Vec<u64> = (0..count).map(|_| random.below(kinds)).collect();
     let around = draw_mark(random, cluster, server, &locks);
     Request {
         client_mark: if ahead { record.acknowledged + 1 } else { around },
+        client,
         generation: record.generation + u32::from(random.chance(40)),
         header: random.below(3) as u32,
-        data: random.bytes(length),
+        data,
         locks,
         ..Request::default()
     }

@@ -33,6 +33,10 @@ impl Checkpoint {
         server.phase = Phase::Open;
         (server.starting, server.issued, server.acknowledged) = (starting, issued, issued);
         let request = Request::default();
-        Scene { kind: Kind::Issue, cluster, call: Call::Issue { server: SERVER as u64, request } }
+        Scene {
+            kind: Kind::GateIssue,
+            cluster,
+            call: Call::Issue { server: SERVER as u64, request },
+        }
     }
 }

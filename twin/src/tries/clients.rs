@@ -38,7 +38,11 @@ impl Client {
         server.phase = Phase::Open;
         (server.issued, server.acknowledged) = (ISSUED, ISSUED);
         let request = Request { client_mark: self.mark, locks: vec![LOCK], ..Request::default() };
-        Scene { kind: Kind::Issue, cluster, call: Call::Issue { server: SERVER as u64, request } }
+        Scene {
+            kind: Kind::GateIssue,
+            cluster,
+            call: Call::Issue { server: SERVER as u64, request },
+        }
     }
 }
 

@@ -38,7 +38,8 @@ const EVERY: &[Kind] = &[
     OpenCopy,
     Trim,
     Open,
-    Issue,
+    GateIssue,
+    BookingIssue,
     Send,
     Note,
     Read,
@@ -46,13 +47,38 @@ const EVERY: &[Kind] = &[
     Stop,
     Reassign,
 ];
-const BY_SERVER: &[Kind] =
-    &[Take, Prepare, OpeningCopy, OpenCopy, Trim, Open, Issue, Send, Note, Read, Export, Stop];
-const BUSY: &[Kind] =
-    &[Prepare, OpeningCopy, OpenCopy, Trim, Open, Issue, Send, Note, Read, Export];
+const BY_SERVER: &[Kind] = &[
+    Take,
+    Prepare,
+    OpeningCopy,
+    OpenCopy,
+    Trim,
+    Open,
+    GateIssue,
+    BookingIssue,
+    Send,
+    Note,
+    Read,
+    Export,
+    Stop,
+];
+const BUSY: &[Kind] = &[
+    Prepare,
+    OpeningCopy,
+    OpenCopy,
+    Trim,
+    Open,
+    GateIssue,
+    BookingIssue,
+    Send,
+    Note,
+    Read,
+    Export,
+];
 const TO_REPLICA: &[Kind] = &[Prepare, OpeningCopy, OpenCopy, Trim, Send, Note, Read, Export];
 const AGREEING: &[Kind] = &[OpeningCopy, OpenCopy, Trim, Send, Note, Read, Export];
 const COPIES: &[Kind] = &[OpeningCopy, OpenCopy];
+const ISSUES: &[Kind] = &[GateIssue, BookingIssue];
 
 fn all_faults() -> Vec<Fault> {
     let before = [shape(), marks(), names(), phases(), fates(), votes(), requests(), work()];
@@ -133,7 +159,7 @@ fn names() -> Vec<Fault> {
 fn phases() -> Vec<Fault> {
     vec![
         fault(5, "idle", BUSY, |scene| set_phase(scene, Phase::Idle)),
-        fault(5, "opening", &[Take, Issue, Send, Note, Read, Export], |scene| {
+        fault(5, "opening", &[Take, GateIssue, BookingIssue, Send, Note, Read, Export], |scene| {
             set_phase(scene, Phase::Opening)
         }),
         fault(5, "open", &[Take, Prepare, Trim, Open], |scene| set_phase(scene, Phase::Open)),
@@ -195,26 +221,28 @@ fn stand(scene: &mut Scene, replica: usize, standing: Standing) {
 
 fn requests() -> Vec<Fault> {
     vec![
-        fault(10, "other generation", &[Issue], |scene| scene.request().generation += 1),
-        fault(11, "client ahead", &[Issue], |scene| scene.request().client_mark = PLACES + 1),
-        fault(12, "29 bytes", &[Issue], |scene| scene.request().data.push(0)),
-        fault(12, "five locks", &[Issue], |scene| scene.request().locks.push(9)),
-        fault(13, "eight unacknowledged", &[Issue], |scene| unacknowledged(scene, 8)),
-        fault(13, "nine unacknowledged", &[Issue], |scene| unacknowledged(scene, 9)),
-        fault(14, "full", &[Issue], |scene| {
+        fault(10, "other generation", ISSUES, |scene| scene.request().generation += 1),
+        fault(11, "client ahead", ISSUES, |scene| scene.request().client_mark = PLACES + 1),
+        fault(12, "a gate with 13 bytes", &[GateIssue], |scene| scene.request().data.push(0)),
+        fault(12, "a gate with two locks", &[GateIssue], |scene| scene.request().locks.push(9)),
+        fault(12, "29 bytes", &[BookingIssue], |scene| scene.request().data.push(0)),
+        fault(12, "five locks", &[BookingIssue], |scene| scene.request().locks.push(9)),
+        fault(13, "eight unacknowledged", ISSUES, |scene| unacknowledged(scene, 8)),
+        fault(13, "nine unacknowledged", ISSUES, |scene| unacknowledged(scene, 9)),
+        fault(14, "full", ISSUES, |scene| {
             let server = &mut scene.cluster.records.servers[SERVER];
             (server.issued, server.acknowledged) = (PLACES, PLACES);
         }),
-        fault(23, "one issued, K = 1", &[Issue], |scene| checkpoint(scene, 4, 5, 1)),
-        fault(23, "K issued", &[Issue], |scene| checkpoint(scene, 2, 5, 3)),
-        fault(23, "many more than K issued", &[Issue], |scene| checkpoint(scene, 0, 5, 2)),
-        fault(23, "all but one place issued, K = N - 1", &[Issue], |scene| {
+        fault(23, "one issued, K = 1", ISSUES, |scene| checkpoint(scene, 4, 5, 1)),
+        fault(23, "K issued", ISSUES, |scene| checkpoint(scene, 2, 5, 3)),
+        fault(23, "many more than K issued", ISSUES, |scene| checkpoint(scene, 0, 5, 2)),
+        fault(23, "all but one place issued, K = N - 1", ISSUES, |scene| {
             checkpoint(scene, 0, PLACES - 1, PLACES - 1)
         }),
-        fault(15, "all locks one above the client's mark", &[Issue], |scene| {
+        fault(15, "all locks one above the client's mark", ISSUES, |scene| {
             set_tables(&mut scene.cluster, CLIENT_MARK + 1, CLIENT_MARK)
         }),
-        fault(15, "the last lock alone one above the client's mark", &[Issue], |scene| {
+        fault(15, "the last lock alone one above the client's mark", ISSUES, |scene| {
             let last = *scene.request().locks.last().expect("a lock");
             let table = scene.cluster.table_mut(SERVER);
             lock_places(last).into_iter().for_each(|place| table[place] = CLIENT_MARK + 1)

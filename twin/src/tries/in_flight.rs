@@ -48,6 +48,6 @@ impl InFlight {
     pub fn issue(self) -> Scene {
         let request = Request { generation: GENERATION, data: vec![0xF1], ..Request::default() };
         let call = Call::Issue { server: SERVER as u64, request };
-        Scene { kind: Kind::Issue, cluster: self.cluster(), call }
+        Scene { kind: Kind::GateIssue, cluster: self.cluster(), call }
     }
 }

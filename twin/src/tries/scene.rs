@@ -9,7 +9,7 @@ pub const PLACES: u64 = 13;
 pub const SESSION: u64 = 5;
 pub const GENERATION: u32 = 2;
 
-/// The client's mark in issue's scene. Its locks' estimates are the same, the highest that are granted.
+/// The client's mark in issue's scenes. Its locks' estimates are the same, the highest that are granted.
 pub const CLIENT_MARK: u64 = 3;
 
 /// The server that makes the call, the replica that gets its message, and the one that a copy
@@ -29,7 +29,7 @@ pub const UNWRITTEN: u8 = 0xAA;
 /// The data of every record.
 const DATA: &[u8] = b"six";
 
-/// The calls, copy once for each phase.
+/// The calls, copy once for each phase, and issue once for each kind of client.
 #[derive(Clone, Copy, Debug, PartialEq, Eq)]
 pub enum Kind {
     Take,
@@ -38,7 +38,8 @@ pub enum Kind {
     OpenCopy,
     Trim,
     Open,
-    Issue,
+    GateIssue,
+    BookingIssue,
     Send,
     Note,
     Read,
@@ -212,18 +213,25 @@ fn issuing_cluster() -> Cluster {
     cluster
 }
 
-pub fn all_scenes() -> [Scene; 13] {
+/// A request with so much data and so many locks.
+fn request(client: u32, data: usize, locks: u64) -> Request {
+    Request {
+        client_mark: CLIENT_MARK,
+        client,
+        generation: GENERATION,
+        data: vec![1; data],
+        locks: (1..=locks).collect(),
+        ..Request::default()
+    }
+}
+
+pub fn all_scenes() -> [Scene; 14] {
     let (server, replica, from) = (SERVER as u64, REPLICA as u64, SOURCE as u64);
     let fate = Fate::Answered;
     let message = Message::new(fate);
     let copy = Call::Copy { server, from, to: replica, message };
-    let request = Request {
-        client_mark: CLIENT_MARK,
-        generation: GENERATION,
-        data: vec![1; 28],
-        locks: vec![1, 2, 3, 4],
-        ..Request::default()
-    };
+    // Each has as much as it may: the last number of a gate, and the first of the booking system.
+    let [gate, booking] = [request(99, 12, 1), request(100, 28, 4)];
     let opening = |marks| cluster(Phase::Opening, marks);
     let calm = || open_cluster([4, 4, 4], 4, 4);
     let idle = || cluster(Phase::Idle, [4, 4, 4]);
@@ -236,7 +244,8 @@ pub fn all_scenes() -> [Scene; 13] {
         (Kind::OpenCopy, open_cluster([3, 4, 4], 4, 4), copy),
         (Kind::Trim, opening([6, 4, 4]), Call::Trim { server, replica, message }),
         (Kind::Open, opening([4, 4, 6]), Call::Open { server, fate }),
-        (Kind::Issue, issuing_cluster(), Call::Issue { server, request }),
+        (Kind::GateIssue, issuing_cluster(), Call::Issue { server, request: gate }),
+        (Kind::BookingIssue, issuing_cluster(), Call::Issue { server, request: booking }),
         (Kind::Send, sending_cluster(), Call::Send { server, replica, message }),
         (Kind::Note, calm(), Call::Note { server, replica, message }),
         (Kind::Read, calm(), Call::Read { server, replica, id: 4, message }),

@@ -2,6 +2,7 @@
 
 use super::clients::draw_mark;
 use super::exports::draw_export;
+use super::limits::{draw_client, draw_count, draw_data};
 use super::scene::record_bytes;
 use crate::cluster::{
     Call, Cluster, Entry, Message, Phase, Request, Server, Shape, Standing, HELD, SERVERS,
@@ -160,12 +161,17 @@ impl Draw<'_> {
     }
 
     fn request(&mut self, cluster: &Cluster, server: u64) -> Request {
-        let locks: Vec<u64> = (0..self.random.below(6)).map(|_| self.lock()).collect();
+        let client = draw_client(self.random);
+        let data = if self.random.chance(3) { draw_data(self.random, client) } else { vec![0; 3] };
+        let wanted = self.random.below(6) as usize;
+        let count = draw_count(self.random, client, wanted);
+        let locks: Vec<u64> = (0..count).map(|_| self.lock()).collect();
         let around = draw_mark(self.random, cluster, server % SERVERS as u64, &locks);
         Request {
             client_mark: if self.random.chance(3) { self.mark() } else { around },
+            client,
             generation: u32::from(self.random.chance(9)),
-            data: vec![0; if self.random.chance(9) { 29 } else { 3 }],
+            data,
             locks,
             ..Request::default()
         }

@@ -4,6 +4,7 @@
 use super::caller::{is_spent, Caller};
 use super::clients::draw_mark;
 use super::exports::draw_export;
+use super::limits::{draw_client, draw_count, draw_data};
 use crate::cluster::{Call, Cluster, Phase, Request, Server, Standing, HELD};
 use crate::random::Random;
 use crate::votes;
@@ -195,20 +196,21 @@ impl Useful<'_> {
         Call::Copy { server, from, to, message: self.caller.message(random) }
     }
 
-    /// Few locks, or more of them so that some were never written, and clients that have read just as
-    /// much as is asked of them, or a little less. Nobody has read what is in flight, so that then most
-    /// ask for none.
+    /// Few locks, or more of them so that some were never written, and clients of either kind that have
+    /// read just as much as is asked of them, or a little less. Nobody has read what is in flight, so
+    /// that then most ask for none.
     fn request(&self, random: &mut Random) -> Request {
-        let length = random.below(29) as usize;
-        let data = if random.chance(3) { random.bytes(length) } else { Vec::new() };
+        let client = draw_client(random);
+        let data = if random.chance(3) { draw_data(random, client) } else { Vec::new() };
         let calm = self.record.unacknowledged() == 0;
         let some = if calm { !random.chance(4) } else { random.chance(4) };
-        let count = if some { 1 + random.below(4) } else { 0 };
+        let wanted = if some { 1 + random.below(5) as usize } else { 0 };
+        let count = draw_count(random, client, wanted);
         let kinds = *random.pick(&[2, 40]);
         let locks: Vec<u64> = (0..count).map(|_| random.below(kinds)).collect();
         Request {
             client_mark: draw_mark(random, self.cluster, self.server, &locks),
-            client: random.word(),
+            client,
             generation: self.record.generation,
             partition: random.below(4) as u32,
             sequence: random.below(9) as u32,

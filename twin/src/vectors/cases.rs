@@ -1,7 +1,7 @@
 //! The list of vectors: fixed cases around every rule of the storage layer, filled with bytes from
 //! a fixed seed.
 
-use super::{segments, LINE_LIMIT, PUBLISHED};
+use super::{gates, segments, LINE_LIMIT, PUBLISHED};
 use crate::crc::crc32;
 use crate::hex;
 use crate::medium::{
@@ -29,6 +29,7 @@ pub fn input() -> String {
         cases.line(line);
     }
     cases.log_ends();
+    gates::lines().into_iter().for_each(|line| cases.line(line));
     cases.lines
 }
 

@@ -25,13 +25,13 @@ pub fn lines(random: &mut Random) -> Vec<String> {
     groups.into_iter().flatten().collect()
 }
 
-fn pair_line(stamp: Stamp, medium: &[u8]) -> String {
+pub fn pair_line(stamp: Stamp, medium: &[u8]) -> String {
     let places = (medium.len() - SLOTS_BYTES) / PLACE_BYTES;
     let Stamp { time, key } = stamp;
     format!("pair\t{time}\t{}\t{places}\t{}", hex::encode(&key), hex::encode(medium))
 }
 
-fn import_line(import: &Import) -> String {
+pub fn import_line(import: &Import) -> String {
     let Import { places, medium, stamp, pair: Pair { data, index } } = import;
     let [key, medium, data, index] = [&stamp.key[..], medium, data, index].map(hex::encode);
     format!("import\t{places}\t{}\t{key}\t{medium}\t{data}\t{index}", stamp.time)

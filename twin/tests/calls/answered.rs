@@ -35,10 +35,11 @@ impl Answered {
         numbers(self.ask(server, client_mark, byte, &[]))
     }
 
-    /// The same with locks, and the reply as it is.
+    /// The same with locks, up to the 4 of a booking client, and the reply as it is.
     pub fn ask(&mut self, server: u64, client_mark: u64, byte: u8, locks: &[u64]) -> Reply {
-        let (data, locks) = (vec![byte], locks.to_vec());
-        self.0.issue(server, &Request { client_mark, header: 9, data, locks, ..Request::default() })
+        let (client, header, data, locks) = (100, 9, vec![byte], locks.to_vec());
+        let request = Request { client_mark, client, header, data, locks, ..Request::default() };
+        self.0.issue(server, &request)
     }
 
     /// To replicas 0 and 1.

@@ -265,6 +265,7 @@ fn open_without_answer_leaves_the_server_idle_and_its_table() {
 fn ask(cluster: &mut Cluster, client_mark: u64, locks: &[u64]) -> Result<Answer, Refusal> {
     let request = Request {
         client_mark,
+        client: 100,
         generation: GENERATION,
         header: 9,
         data: vec![0xAB],
@@ -278,7 +279,7 @@ fn ask(cluster: &mut Cluster, client_mark: u64, locks: &[u64]) -> Result<Answer,
 fn issue_takes_the_least_of_three_entries() {
     let places = lock_places(77).map(|place| SERVER * TABLE_MARKS + place);
     for least in 0..3 {
-        let mut cluster = cluster_for(Kind::Issue);
+        let mut cluster = cluster_for(Kind::BookingIssue);
         for place in places {
             cluster.locks[place] = 9;
         }
@@ -294,9 +295,9 @@ fn issue_takes_the_least_of_three_entries() {
 
 #[test]
 fn issue_judges_all_locks_before_it_writes_any() {
-    let mut cluster = cluster_for(Kind::Issue);
+    let mut cluster = cluster_for(Kind::BookingIssue);
     assert_eq!(ask(&mut cluster, CLIENT_MARK, &[5, 5]), Ok(Answer::Number(6)));
-    let mut cluster = cluster_for(Kind::Issue);
+    let mut cluster = cluster_for(Kind::BookingIssue);
     for place in lock_places(8) {
         cluster.locks[SERVER * TABLE_MARKS + place] = 4;
     }
@@ -309,14 +310,14 @@ fn issue_judges_all_locks_before_it_writes_any() {
 /// Only records that are not acknowledged yet stand in the way.
 #[test]
 fn issue_goes_on_when_more_is_acknowledged_than_issued() {
-    let mut cluster = cluster_for(Kind::Issue);
+    let mut cluster = cluster_for(Kind::BookingIssue);
     record(&mut cluster).acknowledged = 8;
     assert_eq!(ask(&mut cluster, 8, &[]), Ok(Answer::Number(6)));
 }
 
 #[test]
 fn issue_holds_a_valid_record() {
-    let mut cluster = cluster_for(Kind::Issue);
+    let mut cluster = cluster_for(Kind::BookingIssue);
     assert_eq!(ask(&mut cluster, 1, &[]), Ok(Answer::Number(6)));
     assert_eq!(record(&mut cluster).issued, 6);
     let [.., newest] = record(&mut cluster).held;

@@ -226,11 +226,11 @@ type Pair = (Kind, [u64; 2], fn(&mut Scene));
 fn thirteen_and_sixteen_stand_in_their_places() {
     let scenes = all_scenes();
     let pairs: [Pair; 4] = [
-        (Kind::Issue, [12, 13], |scene| {
+        (Kind::BookingIssue, [12, 13], |scene| {
             scene.request().data.truncate(28);
             scene.request().locks.truncate(4);
         }),
-        (Kind::Issue, [13, 14], |scene| {
+        (Kind::BookingIssue, [13, 14], |scene| {
             scene.cluster.records.servers[SERVER].acknowledged = scene.cluster.shape.places
         }),
         (Kind::Send, [7, 16], |scene| {

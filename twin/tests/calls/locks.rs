@@ -157,9 +157,8 @@ fn granted_with_all_read(random: &mut Random, cluster: &Cluster) -> u64 {
         if phase != Phase::Open || acknowledged != issued {
             continue;
         }
-        let locks = draw_locks(random);
-        let request =
-            Request { client_mark: acknowledged, generation, locks, ..Request::default() };
+        let (client, client_mark, locks) = (100, acknowledged, draw_locks(random));
+        let request = Request { client_mark, client, generation, locks, ..Request::default() };
         let reply = cluster.clone().issue(server as u64, &request);
         let declined = [Err(Refusal::Full), Err(Refusal::CheckpointDue)];
         assert!(reply.is_ok() || declined.contains(&reply), "{request:?}: {reply:?}");
@@ -170,8 +169,10 @@ fn granted_with_all_read(random: &mut Random, cluster: &Cluster) -> u64 {
 
 /// issue's scene with these locks; they stand at the client's mark.
 fn asking(locks: &[u64]) -> Scene {
-    let mut scene =
-        all_scenes().into_iter().find(|scene| scene.kind == Kind::Issue).expect("issue's scene");
+    let mut scene = all_scenes()
+        .into_iter()
+        .find(|scene| scene.kind == Kind::BookingIssue)
+        .expect("issue's scene");
     scene.request().locks = locks.to_vec();
     scene
 }

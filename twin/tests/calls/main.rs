@@ -6,5 +6,6 @@ mod effects;
 mod export;
 mod frame;
 mod in_flight;
+mod limits;
 mod locks;
 mod refusals;

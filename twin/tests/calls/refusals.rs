@@ -60,7 +60,8 @@ fn of_several_faults_the_first_of_the_list_is_given() {
 /// A scene of issue with one fault of each number.
 fn with_pairs(numbers: [u64; 2]) -> Vec<Scene> {
     let scenes = all_scenes();
-    let scene = scenes.iter().find(|scene| scene.kind == Kind::Issue).expect("issue's scene");
+    let scene =
+        scenes.iter().find(|scene| scene.kind == Kind::BookingIssue).expect("issue's scene");
     let faults = faults_of(scene);
     let of = |number: u64| faults.iter().filter(move |fault| fault.number() == number);
     let [first, second] = numbers;

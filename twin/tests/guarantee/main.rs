@@ -1,16 +1,18 @@
 //! The guarantee between sessions, on long random lists of calls from fresh clusters: every fate, a
 //! cut at any write, old servers that go on talking, sessions that the interval ends, servers stopped
-//! or overtaken with records in flight, exports.
+//! or overtaken with records in flight, gates and booking clients, exports.
 
 mod exports;
 mod history;
 mod in_flight;
 mod lenient;
+mod limits;
 
 use std::collections::{BTreeMap, BTreeSet};
 
 use history::History;
 use in_flight::InFlight;
+use limits::Clients;
 use twin::cluster::{first_row, Call, Cluster, Refusal, Reply, Shape, FILES_ROW, ORDER};
 use twin::random::Random;
 use twin::tries::caller::{self, Caller};
@@ -46,6 +48,7 @@ struct Met {
     /// Refusal 16 of a send.
     unheld: u64,
     in_flight: InFlight,
+    clients: Clients,
 }
 
 impl Met {
@@ -145,6 +148,7 @@ fn run_list(random: &mut Random, apply: Apply, met: &mut Met) -> (Shape, History
         met.count_writer(&history, &before, &call, &reply);
         due.extend(due_session(&history, &before, &call, &reply));
         met.in_flight.count_call(&before, &call, &reply);
+        met.clients.check(&before, &call, &reply, &cluster);
         let newest = history.opened().keys().next_back().copied();
         history.add(&before, &call, &reply, &cluster);
         met.in_flight.count_open(&history, newest);
@@ -179,6 +183,7 @@ fn later_sessions_keep_what_earlier_ones_acknowledged() {
     assert!(met.refused(13) > LISTS / 4);
     assert!(met.unheld > LISTS);
     met.in_flight.assert_met(LISTS);
+    met.clients.assert_met(LISTS);
     // These cannot be met from a fresh cluster within reach: 1 only for export's files.
     let unmet = (0..ORDER.len()).filter(|row| !met.refusals.contains_key(row));
     assert_eq!(unmet.map(|row| ORDER[row]).collect::<Vec<_>>(), [1, 2, 18, 20, 21]);

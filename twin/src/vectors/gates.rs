@@ -1,0 +1,34 @@
+//! Vectors of records that no gate may send any more (document 02, No. 6): storage and segment files know
+//! no limit but a place's, whoever the client is.
+
+use super::segments::{import_line, pair_line};
+use crate::hex;
+use crate::medium::{medium_bytes, place_at, put, Record, Slot, DATA_LIMIT};
+use crate::tries::imports::{plain, Import, STAMP};
+
+/// One byte more than a gate may send, and as much as a place holds.
+const DATA: [u8; DATA_LIMIT] = [0xC3; DATA_LIMIT];
+
+/// Every line.
+pub fn lines() -> Vec<String> {
+    let records =
+        [Record { client: 99, ..plain(1, &DATA[..13]) }, Record { client: 0, ..plain(2, &DATA) }];
+    let mut lines: Vec<String> = records.iter().flat_map(|it| [record(it), place(it)]).collect();
+    let mut medium = vec![0; medium_bytes(records.len())];
+    put(&mut medium, 0, &Slot::default().encode());
+    records.iter().for_each(|it| put(&mut medium, place_at(it.id), &it.encode()));
+    lines.push(format!("medium\t{}\t{}", records.len(), hex::encode(&medium)));
+    lines.push(pair_line(STAMP, &medium));
+    lines.push(import_line(&Import::whole(2, STAMP, &records)));
+    lines
+}
+
+fn record(record: &Record) -> String {
+    let Record { id, client, generation, partition, sequence, header, data } = *record;
+    let data = hex::encode(data);
+    format!("record\t{id}\t{client}\t{generation}\t{partition}\t{sequence}\t{header}\t{data}")
+}
+
+fn place(record: &Record) -> String {
+    format!("place\t{}\t{}", record.id, hex::encode(&record.encode()))
+}

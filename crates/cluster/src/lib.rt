@@ -3,7 +3,7 @@
 use fate::Fate;
 use storage::sizes::PLACE;
 
-// Limits, each named once: entries and marks of a record, servers, the marks of a server's lock table and of all four, and the records that a
+// Numbers, each named once: entries and marks of a record, servers, the marks of a server's lock table and of all four, and the records that a
 // server holds, with their bytes.
 pub const REPLICAS: usize = 7;
 

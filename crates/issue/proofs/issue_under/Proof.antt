@@ -1,4 +1,4 @@
--- `issue::issue_under`: refused by 1 to 3, refused by `judge`, or `issued`; rows that passed give what the callees require (12: the data fit, since the
+-- `issue_under`: refused by 1 to 3, refused by `judge`, or `issued`; rows that passed give what the callees require (12: the data fit, since the
 -- pair's bytes do).
 use mathlib.Core.Path.{refl}
 use mathlib.Core.List.{[], _∷_, _++_}
@@ -12,8 +12,8 @@ use Rattle.checks.proofs.Frame.{refused, goes-on, nothing-more, holds-not, admi
 use Rattle.cluster.proofs.Limited.{fits-place}
 use native.Mathlib.Omega.{arith}
 use borrow.Author.Needs.{needs}
-use Rattle.local_calls.proofs.issue.issue_under.Statement.{statement}
-use Rattle.local_calls.proofs.issue.issue_under.Tie as tie
+use Rattle.issue.proofs.issue_under.Statement.{statement}
+use Rattle.issue.proofs.issue_under.Tie as tie
 
 admit-server-requires : tie.Need-admit-server-requires
 admit-server-requires c κs = search needs

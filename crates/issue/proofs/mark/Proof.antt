@@ -1,9 +1,9 @@
--- `issue::mark`: the part lent to `mark_all` is server i's table, and what comes back is that table written in place (`table-marked`).
-use Rattle.local_calls.proofs.Issuing.{table-marked}
+-- `mark`: the part lent to `mark_all` is server i's table, and what comes back is that table written in place (`table-marked`).
+use Rattle.issue.proofs.Issuing.{table-marked}
 use native.Mathlib.Omega.{arith}
 use borrow.Author.Needs.{needs}
-use Rattle.local_calls.proofs.issue.mark.Statement.{statement}
-use Rattle.local_calls.proofs.issue.mark.Tie as tie
+use Rattle.issue.proofs.mark.Statement.{statement}
+use Rattle.issue.proofs.mark.Tie as tie
 
 mul-at : tie.Need-mul-at
 mul-at c = search needs

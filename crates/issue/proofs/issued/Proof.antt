@@ -1,7 +1,7 @@
--- `issue::issued`: `held_after` ensures the records that the server then holds; the other fields are set as in the definition.
+-- `issued`: `held_after` ensures the records that the server then holds; the other fields are set as in the definition.
 use borrow.Author.Needs.{needs}
-use Rattle.local_calls.proofs.issue.issued.Statement.{statement}
-use Rattle.local_calls.proofs.issue.issued.Tie as tie
+use Rattle.issue.proofs.issued.Statement.{statement}
+use Rattle.issue.proofs.issued.Tie as tie
 
 add-id : tie.Need-add-id
 add-id c = search needs

@@ -53,9 +53,9 @@ static void start(unsigned char *media) {
   }
 }
 
-/* The record of this ID, as twin/src/jobs/stage.rs issues it: client 1, partition 2, sequence 3, header 4, data that differ. */
+/* The record of this ID, as twin/src/jobs/stage.rs issues it: client 100, partition 2, sequence 3, header 4, data that differ. */
 static void put_record(unsigned char *place, uint64_t id) {
-  const uint32_t fields[] = {1, 0, 2, 3, 4, DATA};
+  const uint32_t fields[] = {100, 0, 2, 3, 4, DATA};
   put(place, 8, id);
   for (size_t i = 0; i < 6; i++)
     put(place + 8 + 4 * i, 4, fields[i]);

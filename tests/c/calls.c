@@ -102,6 +102,24 @@ static void valid_places(void)
     require(places_valid - before == 1000 * (MOST_DATA + 1), "every record that is made for a place is valid there");
 }
 
+/* What a gate may send is issue's to check: a place with as much data as it has room for is valid, whoever the client is. */
+static void clients(void)
+{
+    static const uint64_t CLIENTS[] = {0, 1, 99, 100, 101, UINT32_MAX};
+    enum { COUNT = sizeof CLIENTS / sizeof CLIENTS[0] };
+    uint8_t place[PLACE];
+    uint64_t before = places_valid;
+    for (size_t i = 0; i < COUNT; i++) {
+        for (size_t data = 0; data <= MOST_DATA; data++) {
+            make_place(place, 258, data);
+            put_number(place + 8, 4, CLIENTS[i]);
+            seal(place);
+            compare_place("client", place, PLACE, 258);
+        }
+    }
+    require(places_valid - before == COUNT * (MOST_DATA + 1), "a client's number does not matter");
+}
+
 static void numbers_and_ids(void)
 {
     uint8_t place[PLACE];
@@ -283,6 +301,7 @@ int main(void)
     static const uint8_t digits[] = {'1', '2', '3', '4', '5', '6', '7', '8', '9'};
     require(crc32_of(digits, sizeof digits) == 0xCBF43926, "the CRC-32 of 123456789 is CBF43926");
     valid_places();
+    clients();
     numbers_and_ids();
     lengths();
     nothing();

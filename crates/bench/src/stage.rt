@@ -142,7 +142,7 @@ pub fn prepared(r: Records, m: &mut [u8], tables: &mut [u64], server: u64) -> Re
     to_all(taken, m, tables, server, false)
 }
 
-// Server 0 issues a record.
+// Server 0 issues a record, for a client of the booking system: it has more data than a gate may send.
 pub fn issued(r: Records, m: &mut [u8], tables: &mut [u64]) -> Records {
     let q = Request {
         mark: 0,

@@ -1,10 +1,10 @@
 -- Number 12 (document 02, No. 6) as laws about a whole issue, shown once for a limit pair and used for both. Under any pair: past the refusals before 12 an
 -- issue is declined by it exactly if its data or its locks exceed the pair, and a request that is given an ID is within the pair (`under-any`). The call
--- itself is an issue under the pair that belongs to the client; so the gates, "numbers below 100", are held to 12 bytes and 1 lock, and all others to 28
--- and 4 (`for-both`). Whichever pair it is, a place has room for its bytes (`has-room`): that is all that the call's proof and the guarantee take of it.
--- The statements come first, then their proofs.
+-- itself is an issue under the pair that belongs to the client (`own-pair`); so the gates, "numbers below 100", are held to 12 bytes and 1 lock, and all
+-- others to 28 and 4 (`for-both`). Whichever pair it is, a place has room for its bytes (`has-room`): that is all that the call's proof and the guarantee
+-- take of it. The statements come first, then their proofs.
 -- Assumes nothing.
-use mathlib.Core.Path.{_≡_, refl, subst}
+use mathlib.Core.Path.{_≡_, refl, subst, subst⁻¹}
 use mathlib.Core.Bool.{Bool, true, false}
 use mathlib.Core.Logic.{_↔_, _⊎_}
 use mathlib.Core.List.{List, []}
@@ -15,7 +15,7 @@ use lib.Dec.{lit≤}
 use Rattle.storage.specs.Sizes.{dataLimit}
 use Rattle.limits.specs.declared.Limits.{Limits}
 use Rattle.limits.specs.Limits.{gateLimits, bookingLimits, limitsOf, tooMuch}
-use Rattle.limits.proofs.Pairs.{of-gate, of-booking, of-any, exceeds-exactly, within}
+use Rattle.limits.proofs.Pairs.{of-gate, of-booking, of-any, exceeds-exactly, within-pair}
 use Rattle.segment.specs.declared.header.Stamp.{Stamp}
 use Rattle.segment.specs.Pair.{Files}
 use Rattle.cluster.specs.declared.Shape.{Shape}
@@ -38,13 +38,21 @@ pub record Limited (l : Limits) (content locks : List ℕ) (ws : List Row) (r : 
 
 abbrev pub UnderAny : Type 0
 UnderAny =
-    (l : Limits) (h : Shape) (x : State) (p : Input) (s : ℕ) (q : Request)
-    → Limited l (p .content) (p .locks) (listOf (issueChecks l h x p s q)) (issueUnder l h x p s q)
+    (l : Limits) (h : Shape) (x : State) (s : ℕ) (q : Request) (content locks : List ℕ)
+    → Limited l content locks (listOf (issueChecks l h x s q content locks)) (issueUnder l h x s q content locks)
+
+abbrev issue : ℕ → Request → List ℕ → List ℕ → List ℕ → Stamp → Files → Input
+issue s q content locks given stamp files = record { call = call.Issue s q; content = content; locks = locks; given = given; stamp = stamp; files = files }
+
+abbrev pub OwnPair : Type 0
+OwnPair =
+    (h : Shape) (x : State) (s : ℕ) (q : Request) (content locks given : List ℕ) (stamp : Stamp) (files : Files)
+    → step h x (issue s q content locks given stamp files) ≡ issueUnder (limitsOf (q .client)) h x s q content locks
 
 abbrev pub ForBoth : Type 0
 ForBoth =
     (h : Shape) (x : State) (s : ℕ) (q : Request) (content locks given : List ℕ) (stamp : Stamp) (files : Files)
-    → let p : Input = record { call = call.Issue s q; content = content; locks = locks; given = given; stamp = stamp; files = files } in
+    → let p = issue s q content locks given stamp files in
     (q .client < 100 → Limited gateLimits content locks (rowsOf h x p) (step h x p))
     × (100 ≤ q .client → Limited bookingLimits content locks (rowsOf h x p) (step h x p))
 
@@ -53,31 +61,31 @@ HasRoom = (client : ℕ) → limitsOf client .bytes ≤ dataLimit
 
 -- ---- under any pair
 
-module _ (l : Limits) (h : Shape) (x : State) (p : Input) (s : ℕ) (q : Request) where
+module _ (l : Limits) (h : Shape) (x : State) (s : ℕ) (q : Request) (content locks : List ℕ) where
   abbrev ws : List Row
-  ws = listOf (issueChecks l h x p s q)
+  ws = listOf (issueChecks l h x s q content locks)
 
   abbrev much : Bool
-  much = tooMuch l (length (p .content)) (length (p .locks))
+  much = tooMuch l (length content) (length locks)
 
   abbrev e : Result
-  e = issueEffect x s q (p .content) (p .locks)
+  e = issueEffect x s q content locks
 
-  -- an issue's effect is never a decline
+  -- an issue's effect is an ID
   never : e .reply ≡ no 12 [] → ⊥
   unfolding issueEffect
   never r = let z : _≡_ {A = ℕ} 0 1 = cc in absurd (omega arith)
 
-  by-row : (issueUnder l h x p s q .reply ≡ no 12 []) ↔ ((firstOf (until 12 ws) ≡ pass) × (much ≡ true) × (_≡_ {A = List ℕ} [] []))
+  by-row : (issueUnder l h x s q content locks .reply ≡ no 12 []) ↔ ((firstOf (until 12 ws) ≡ pass) × (much ≡ true) × (_≡_ {A = List ℕ} [] []))
   unfolding mentions until beyond
   by-row = given-exactly (until 12 ws) (row 12 much) (beyond 12 ws) x e [] refl refl never
 
-  limited : Limited l (p .content) (p .locks) ws (issueUnder l h x p s q)
+  limited : Limited l content locks ws (issueUnder l h x s q content locks)
   limited =
-      let exceeds = exceeds-exactly l (length (p .content)) (length (p .locks)) in
+      let exceeds = exceeds-exactly l (length content) (length locks) in
       record {
         exactly = λ k. (λ r. exceeds .0 (by-row .0 r .1), λ w. by-row .1 (k, exceeds .1 w, refl));
-        within = λ values r. within l (length (p .content)) (length (p .locks)) (passed ws (ok-passes ws x e values r) 12);
+        within = λ values r. within-pair l (length content) (length locks) (passed ws (ok-passes ws x e values r) 12);
       }
 
 pub under-any : UnderAny
@@ -85,12 +93,18 @@ under-any = limited
 
 -- ---- under the client's own
 
-pub for-both : ForBoth
+pub own-pair : OwnPair
 unfolding step
+own-pair h x s q content locks given stamp files = refl
+
+pub for-both : ForBoth
 for-both h x s q content locks given stamp files =
-    let p : Input = record { call = call.Issue s q; content = content; locks = locks; given = given; stamp = stamp; files = files } in
-    let own = under-any (limitsOf (q .client)) h x p s q in
-    let held-to : Limits → Type 0 = λ l. Limited l content locks (rowsOf h x p) (step h x p) in
+    let p = issue s q content locks given stamp files in
+    let rows = rowsOf h x p in
+    let under : Limited (limitsOf (q .client)) content locks rows (issueUnder (limitsOf (q .client)) h x s q content locks) =
+    under-any (limitsOf (q .client)) h x s q content locks in
+    let own = subst⁻¹ (Limited (limitsOf (q .client)) content locks rows) (own-pair h x s q content locks given stamp files) under in
+    let held-to : Limits → Type 0 = λ l. Limited l content locks rows (step h x p) in
     (λ g. subst held-to (of-gate (q .client) g) own, λ b. subst held-to (of-booking (q .client) b) own)
 
 pub has-room : HasRoom
@@ -98,4 +112,4 @@ has-room = of-any (λ l. l .bytes ≤ dataLimit) (lit≤ tt) (lit≤ tt)
 
 -- data that pass 12 fit a place, under any pair that a place has room for
 pub fits-place : (l : Limits) (size locks : ℕ) → l .bytes ≤ dataLimit → tooMuch l size locks ≡ false → size ≤ dataLimit
-fits-place l size locks room e = omega (arith, room, within l size locks e .0)
+fits-place l size locks room e = omega (arith, room, within-pair l size locks e .0)

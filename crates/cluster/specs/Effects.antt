@@ -298,8 +298,7 @@ openEffect r d x s f =
 
 -- ================ calls without a message
 
--- "issue (open): gives a request the next ID and writes that ID in the three table places of each of its 0 to 4 locks"; document 02, No. 6: a gate "may send
--- at most 12 data bytes and 1 lock"
+-- "issue (open): gives a request the next ID and writes that ID in the three table places of each of its 0 to 4 locks"
 abbrev pub issuedFields : ℕ → Request → Fields
 issuedFields n q =
     record { id = n; client = q .client; generation = q .generation; partition = q .partition; sequence = q .sequence; header = q .header }

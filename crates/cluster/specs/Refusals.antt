@@ -177,8 +177,8 @@ otherGeneration v q = not (eqb (q .generation) (v .generation))
 abbrev pub clientAhead : Server → Request → Bool
 clientAhead v q = ltb (v .acked) (q .mark)
 
--- 12, document 02, No. 6: "Refusal 12 reads the pair that belongs to the client", in place of document 01's "Data exceed 28 bytes, or locks exceed 4":
--- limits specs/Limits.antt `tooMuch`, which issue's rows cite
+-- 12, document 01: "Data exceed 28 bytes, or locks exceed 4", is limits specs/Limits.antt `tooMuch`, under a pair; the client's pair is handed over below, in
+-- issue's line of `checksOf`
 
 -- 13, document 02, No. 5: "Refusal 13 now means eight or more unacknowledged", in place of document 01's "The issued record isn't acknowledged yet
 -- (issue)". They are counted from the acknowledged mark; one above the issued mark, which can be handed in, leaves none unacknowledged.
@@ -365,12 +365,12 @@ requestRows h l v q size table locks =
     ∷ lockRow (firstHeld table locks (q .mark))
     ∷ []
 
--- what an issue is checked for under a pair of limits
-abbrev pub issueChecks : Limits → Shape → State → Input → ℕ → Request → Checks
-issueChecks l h x p s q =
+-- what an issue with this data and these locks is checked for under a pair of limits
+abbrev pub issueChecks : Limits → Shape → State → ℕ → Request → List ℕ → List ℕ → Checks
+issueChecks l h x s q content locks =
     record {
       admission = phaseRows h x s onlyOpen;
-      sending = requestRows h l (serverAt (x .records) s) q (length (p .content)) (tableAt s (x .tables)) (p .locks);
+      sending = requestRows h l (serverAt (x .records) s) q (length content) (tableAt s (x .tables)) locks;
       receiving = [];
     }
 
@@ -413,7 +413,8 @@ checksOf h x p (call.Open s f) =
           ∷ [];
       receiving = seen f 22 (sessionDiffers (x .records .register) v) ∷ [];
     }
-checksOf h x p (call.Issue s q) = issueChecks (limitsOf (q .client)) h x p s q
+-- document 02, No. 6: "Refusal 12 reads the pair that belongs to the client"
+checksOf h x p (call.Issue s q) = issueChecks (limitsOf (q .client)) h x s q (p .content) (p .locks)
 checksOf h x p (call.Send s i f) =
     let v = serverAt (x .records) s in
     record {

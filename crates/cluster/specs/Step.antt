@@ -50,9 +50,9 @@ unfoldable pub step : Shape → State → Input → Result
 step h x p = rest (rowsOf h x p) x (effect h x p (p .call))
 
 -- Document 02, No. 6: "What is shown about issue is shown once for a limit pair and used for both". An issue under a pair of limits; `step` of an issue is
--- this, under the pair that belongs to its client.
-abbrev pub issueUnder : Limits → Shape → State → Input → ℕ → Request → Result
-issueUnder l h x p s q = rest (listOf (issueChecks l h x p s q)) x (issueEffect x s q (p .content) (p .locks))
+-- this, under the pair that belongs to its client (proofs/Limited `own-pair`).
+abbrev pub issueUnder : Limits → Shape → State → ℕ → Request → List ℕ → List ℕ → Result
+issueUnder l h x s q content locks = rest (listOf (issueChecks l h x s q content locks)) x (issueEffect x s q content locks)
 
 -- ================ the two files that are lent beside a call
 

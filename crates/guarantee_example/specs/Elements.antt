@@ -24,21 +24,23 @@ noFiles = record { dataFile = []; indexFile = [] }
 abbrev pub plain : Call → Element
 plain c = record { input = record { call = c; content = []; locks = []; given = replicate {A = ℕ} 64 0; stamp = noStamp; files = noFiles }; reader = 2 }
 
--- an issue by server 0 for a client with this mark
+-- a request of this client, with this mark
 abbrev pub request : ℕ → ℕ → Request
 request client mark = record { mark = mark; client = client; generation = 0; partition = 0; sequence = 0; header = 9 }
 
+-- server 0 is asked to issue it
 abbrev pub asking : ℕ → ℕ → List ℕ → List ℕ → Element
 asking client mark locks content =
     record { input = record { call = call.Issue 0 (request client mark); content = content; locks = locks; given = []; stamp = noStamp; files = noFiles }; reader = 0 }
 
--- a gate's, and the booking system's
+-- a client number of either kind: a gate, and the booking system
 abbrev pub gate : ℕ
 gate = 0
 
 abbrev pub bookings : ℕ
 bookings = 100
 
+-- most are a gate's
 abbrev pub issuing : ℕ → List ℕ → List ℕ → Element
 issuing mark locks content = asking gate mark locks content
 
@@ -50,5 +52,6 @@ abbrev pub loggedFor : ℕ → ℕ → ℕ → ℕ → List ℕ → List ℕ →
 loggedFor client id call mark locks content =
     record { bytes = recordBytes (issuedFields id (request client mark)) content; transaction = record { call = call; locks = locks; mark = mark } }
 
+-- a gate's
 abbrev pub logged : ℕ → ℕ → ℕ → List ℕ → List ℕ → Logged
 logged id call mark locks content = loggedFor gate id call mark locks content

@@ -155,7 +155,7 @@ fn issue_under(
     limits: Limits,
 ) -> Outcome
     requires { ⌜ limits .bytes ≤ dataLimit ⌝ }
-    ensures { λ o. ⌜ resultOf o (now (media .entry)) (now (tables .exit)) ≡ issueUnder limits shape (stateOf records (now (media .entry)) (now (tables .entry))) (record { call = call.Issue server request; content = now (content .entry); locks = now (locks .entry); given = []; stamp = noStamp; files = noFiles }) server request ⌝ }
+    ensures { λ o. ⌜ resultOf o (now (media .entry)) (now (tables .exit)) ≡ issueUnder limits shape (stateOf records (now (media .entry)) (now (tables .entry))) server request (now (content .entry)) (now (locks .entry)) ⌝ }
 {
     let k = checks::admit_server(shape, records, media.len(), tables.len(), server);
     if let Check::Refuse(why) = k {

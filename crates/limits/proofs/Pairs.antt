@@ -41,7 +41,7 @@ exceeds-exactly l size locks = (
     second true e = refl
     second false e = e
 
-pub within : (l : Limits) (size locks : ℕ) → tooMuch l size locks ≡ false → (size ≤ l .bytes) × (locks ≤ l .locks)
-within l size locks e =
+pub within-pair : (l : Limits) (size locks : ℕ) → tooMuch l size locks ≡ false → (size ≤ l .bytes) × (locks ≤ l .locks)
+within-pair l size locks e =
     let n = neither (ltb (l .bytes) size) (ltb (l .locks) locks) e in
     (ltb-false (l .bytes) size (n .0), ltb-false (l .locks) locks (n .1))

@@ -23,7 +23,6 @@ isGate client = ltb client 100
 unfoldable pub limitsOf : ℕ → Limits
 limitsOf client = cond (isGate client) gateLimits bookingLimits
 
--- "Refusal 12 reads the pair that belongs to the client", in place of document 01's "Data exceed 28 bytes, or locks exceed 4": of so many bytes and locks,
--- under any pair
+-- 12, document 01: "Data exceed 28 bytes, or locks exceed 4", with a pair in place of the two numbers; of so many bytes and locks
 abbrev pub tooMuch : Limits → ℕ → ℕ → Bool
 tooMuch l size locks = ltb (l .bytes) size || ltb (l .locks) locks

@@ -11,6 +11,7 @@ pub struct Limits {
 // Clients with numbers below this are gates.
 const GATES: u32 = 100;
 
+// The pair that belongs to the client: a gate's, or the booking system's.
 pub fn limits_of(client: u32) -> Limits
     ensures { λ l. ⌜ l ≡ limitsOf client ⌝ }
 {
@@ -26,6 +27,7 @@ pub fn limits_of(client: u32) -> Limits
     }
 }
 
+// A request with so many bytes of data and so many locks has more of either than the pair allows.
 pub fn exceeds(limits: Limits, size: usize, locks: usize) -> bool
     ensures { λ b. ⌜ b ≡ tooMuch limits size locks ⌝ }
 {

@@ -79,7 +79,7 @@ serverReplicaFate s c = numberAt 1 s (λ v. numberAt 2 s (λ i. fateAt 3 s (λ f
 unfoldable pub copyForm : List ℕ → Meaning
 copyForm s = numberAt 1 s (λ v. numberAt 2 s (λ a. numberAt 3 s (λ b. fateAt 4 s (λ f. asked (call.Copy v a b f) [] []))))
 
--- "issue fills client, partition and sequence with 0"; document 02, No. 6: "the script fills in client 100", which is no gate
+-- "issue fills client, partition and sequence with 0"; document 02, No. 6, in place of the client's 0: "the script fills in client 100", which is no gate
 abbrev pub requestOf : ℕ → ℕ → ℕ → Request
 requestOf m g h = record { mark = m; client = 100; generation = g; partition = 0; sequence = 0; header = h }
 

@@ -88,9 +88,9 @@ requestAtMark n = record { mark = n; client = 0; generation = 0; partition = 0; 
 
 -- issue's own refusals, of a cluster of 1,000 places, in which a session may issue as many IDs, and a request without data, under its client's limits
 abbrev pub requestOn : ℕ → ℕ → ℕ → Verdict
-requestOn k entry client =
-    let q = requestAtMark client in
-    firstOf (requestRows (record { replicas = 1; places = 1000; interval = 1000 }) (limitsOf (q .client)) (serverAtMark client) q 0 (replicate 1024 entry) (k ∷ []))
+requestOn k entry mark =
+    let q = requestAtMark mark in
+    firstOf (requestRows (record { replicas = 1; places = 1000; interval = 1000 }) (limitsOf (q .client)) (serverAtMark mark) q 0 (replicate 1024 entry) (k ∷ []))
 
 abbrev pub Says : Example → Type 0
 Says (vote marks v) = voteIn marks ≡ v

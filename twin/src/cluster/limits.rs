@@ -3,7 +3,6 @@
 //! whoever sent it.
 
 use super::Request;
-use crate::medium::DATA_LIMIT;
 
 /// "numbers below 100 are gates"; this one and those above belong to the booking system.
 pub const FIRST_BOOKING_CLIENT: u32 = 100;
@@ -18,8 +17,8 @@ pub struct Limits {
 /// The gate system's: "at most 12 data bytes and 1 lock".
 pub const GATE: Limits = Limits { data: 12, locks: 1 };
 
-/// The booking system keeps document 01's: as much data as a place holds, and 4 locks.
-pub const BOOKING: Limits = Limits { data: DATA_LIMIT, locks: 4 };
+/// The booking system keeps document 01's: "Data exceed 28 bytes, or locks exceed 4".
+pub const BOOKING: Limits = Limits { data: 28, locks: 4 };
 
 impl Limits {
     /// The pair that belongs to the client.

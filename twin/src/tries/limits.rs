@@ -28,9 +28,9 @@ pub struct Wish {
 }
 
 impl Wish {
-    /// A request that nothing else stands in the way of. Every other number of it and of the server's
-    /// record, the next ID too, lies on the other side of the edge than the client's, so that it shows
-    /// which one is looked at.
+    /// A request that nothing else stands in the way of. Its other fields, and the server's session,
+    /// generation and marks, the next ID too, lie on the other side of the edge than the client's number,
+    /// so that it shows which one is looked at.
     pub fn scene(self) -> Scene {
         let mut cluster = Cluster::fresh(Shape::whole(1, PLACES)).expect("an allowed shape");
         let gate = self.client < FIRST_BOOKING_CLIENT;

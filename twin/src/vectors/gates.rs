@@ -6,10 +6,11 @@ use crate::hex;
 use crate::medium::{medium_bytes, place_at, put, Record, Slot, DATA_LIMIT};
 use crate::tries::imports::{plain, Import, STAMP};
 
-/// One byte more than a gate may send, and as much as a place holds.
+/// As much as a place holds.
 const DATA: [u8; DATA_LIMIT] = [0xC3; DATA_LIMIT];
 
-/// Every line.
+/// Every line: of a gate's record with one byte more than it may send, and of one with as much as a place
+/// holds.
 pub fn lines() -> Vec<String> {
     let records =
         [Record { client: 99, ..plain(1, &DATA[..13]) }, Record { client: 0, ..plain(2, &DATA) }];

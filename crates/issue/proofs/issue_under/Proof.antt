@@ -3,11 +3,10 @@
 use mathlib.Core.Path.{refl}
 use mathlib.Core.List.{[], _∷_, _++_}
 use lib.ListN.{length}
-use Rattle.cluster.specs.declared.Call.the-variants as call
 use Rattle.cluster.specs.State.{serverAt}
-use Rattle.cluster.specs.Refusals.{Input, onlyOpen, wrongPhase, row, serverRows, issueChecks}
+use Rattle.cluster.specs.Refusals.{onlyOpen, wrongPhase, row, serverRows, issueChecks}
 use Rattle.cluster.specs.Effects.{issueEffect}
-use Rattle.checks.specs.Results.{noFiles, noStamp, stateOf}
+use Rattle.checks.specs.Results.{stateOf}
 use Rattle.checks.proofs.Frame.{refused, goes-on, nothing-more, holds-not, admitted}
 use Rattle.cluster.proofs.Limited.{fits-place}
 use native.Mathlib.Omega.{arith}
@@ -28,8 +27,7 @@ returns : tie.Need-returns
 returns c =
     let a = c .before .before .before .before .before .before .before .before .before .args in
     let x = stateOf (a .t2) (a .media .now) (a .tables .now) in
-    let q : Input = record { call = call.Issue (a .server) (a .request); content = a .content .now; locks = a .locks .now; given = []; stamp = noStamp; files = noFiles } in
-    let k = issueChecks (a .limits) (a .shape) x q (a .server) (a .request) in
+    let k = issueChecks (a .limits) (a .shape) x (a .server) (a .request) (a .content .now) (a .locks .now) in
     let front = serverRows (a .shape) x (a .server) in
     let own = row 5 (wrongPhase onlyOpen (serverAt (a .t2) (a .server))) ∷ (k .sending ++ k .receiving) in
     refused (a .t2) (a .media .now) (a .tables .now) _ front own (c .before .before .before .before .admit-server .ensures (a .media .now) (a .tables .now) refl refl) (c .before .before .k .given .1) (c .declined .ensures)
@@ -95,8 +93,7 @@ returns-2 : tie.Need-returns-2
 returns-2 c =
     let a = c .before .before .before .before .before .before .before .before .before .before .before .before .before .before .args in
     let x = stateOf (a .t2) (a .media .now) (a .tables .now) in
-    let q : Input = record { call = call.Issue (a .server) (a .request); content = a .content .now; locks = a .locks .now; given = []; stamp = noStamp; files = noFiles } in
-    let k = issueChecks (a .limits) (a .shape) x q (a .server) (a .request) in
+    let k = issueChecks (a .limits) (a .shape) x (a .server) (a .request) (a .content .now) (a .locks .now) in
     let front = serverRows (a .shape) x (a .server) in
     let own = row 5 (wrongPhase onlyOpen (serverAt (a .t2) (a .server))) ∷ (k .sending ++ k .receiving) in
     goes-on (a .t2) (a .media .now) (a .tables .now) _ front own (c .before .before .before .before .before .before .before .before .before .admit-server .ensures (a .media .now) (a .tables .now) refl refl) (c .before .before .before .before .before .before .before .enum-told .given .1)
@@ -110,8 +107,7 @@ unfolding issueEffect
 returns-3 c =
     let a = c .before .before .before .before .before .before .before .before .before .before .before .before .before .before .before .before .before .before .before .args in
     let x = stateOf (a .t2) (a .media .now) (a .tables .now) in
-    let q : Input = record { call = call.Issue (a .server) (a .request); content = a .content .now; locks = a .locks .now; given = []; stamp = noStamp; files = noFiles } in
-    let k = issueChecks (a .limits) (a .shape) x q (a .server) (a .request) in
+    let k = issueChecks (a .limits) (a .shape) x (a .server) (a .request) (a .content .now) (a .locks .now) in
     let front = serverRows (a .shape) x (a .server) in
     let own = row 5 (wrongPhase onlyOpen (serverAt (a .t2) (a .server))) ∷ (k .sending ++ k .receiving) in
     goes-on (a .t2) (a .media .now) (a .tables .now) _ front own (c .before .before .before .before .before .before .before .before .before .before .before .before .before .before .admit-server .ensures (a .media .now) (a .tables .now) refl refl) (c .before .before .before .before .before .before .before .before .before .before .before .before .enum-told .given .1)

@@ -14,6 +14,15 @@ impl Answered {
         Answered(Cluster::fresh(shape).expect("an allowed shape"))
     }
 
+    /// Three replicas, server 0 open at 0 with all of them.
+    pub fn opened(places: u64) -> Answered {
+        let mut cluster = Answered::fresh(3, places, places);
+        assert_eq!(cluster.take(0), Ok(1));
+        assert_eq!([0, 1, 2].map(|replica| cluster.prepare(0, replica)), [Ok(0); 3]);
+        assert_eq!(cluster.open(0), Ok(0));
+        cluster
+    }
+
     pub fn call(&mut self, mut call: Call) -> Result<u64, u64> {
         numbers(self.0.apply(&mut call))
     }

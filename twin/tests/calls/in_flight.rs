@@ -10,20 +10,11 @@ use twin::tries::scene::{
     all_scenes, held_up_to, record_bytes, Kind, Scene, GENERATION, REPLICA, SERVER,
 };
 
-/// Three replicas, server 0 open at 0 with all of them.
-fn opened(places: u64) -> Answered {
-    let mut cluster = Answered::fresh(3, places, places);
-    assert_eq!(cluster.take(0), Ok(1));
-    assert_eq!([0, 1, 2].map(|replica| cluster.prepare(0, replica)), [Ok(0); 3]);
-    assert_eq!(cluster.open(0), Ok(0));
-    cluster
-}
-
 /// Eight records in flight and no ninth; a member that is sent nothing any more and copied to; a server
 /// stopped with records in flight.
 #[test]
 fn eight_in_flight_call_by_call() {
-    let mut cluster = opened(12);
+    let mut cluster = Answered::opened(12);
     for id in 1..=8 {
         assert_eq!(cluster.issue(0, 0, id as u8), Ok(id));
     }
@@ -262,7 +253,7 @@ fn thirteen_and_sixteen_stand_in_their_places() {
 /// copy from, issue comes to 13 and stays there until another session.
 #[test]
 fn a_member_that_is_outrun_waits_for_a_copy_or_another_session() {
-    let mut cluster = opened(20);
+    let mut cluster = Answered::opened(20);
     for id in 1..=9 {
         assert_eq!(cluster.issue(0, 0, id as u8), Ok(id));
         if id == 1 {
@@ -346,7 +337,7 @@ fn majority(cluster: &Cluster, replicas: &[u64]) -> u64 {
 /// choice of replicas to recover with.
 #[test]
 fn whichever_of_the_eight_reached_whom() {
-    let mut issued = opened(8);
+    let mut issued = Answered::opened(8);
     for id in 1..=8 {
         assert_eq!(issued.issue(0, 0, 0x10 + id as u8), Ok(id));
     }

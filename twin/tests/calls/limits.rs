@@ -21,15 +21,6 @@ fn is_too_much(client: u32, data: usize, locks: usize) -> bool {
     }
 }
 
-/// Three replicas, server 0 open at 0 with all of them.
-fn opened(places: u64) -> Answered {
-    let mut cluster = Answered::fresh(3, places, places);
-    assert_eq!(cluster.take(0), Ok(1));
-    assert_eq!([0, 1, 2].map(|replica| cluster.prepare(0, replica)), [Ok(0); 3]);
-    assert_eq!(cluster.open(0), Ok(0));
-    cluster
-}
-
 /// A request by a client that has read nothing.
 fn ask(cluster: &mut Answered, client: u32, data: usize, locks: &[u64]) -> Result<u64, u64> {
     let (data, locks) = (vec![0x5A; data], locks.to_vec());
@@ -45,7 +36,7 @@ fn gates_and_bookings_call_by_call() {
     let (first, others) = (1, [2, 3, 4, 5]);
     let places = others.map(lock_places).concat();
     assert!(lock_places(first).iter().all(|place| !places.contains(place)));
-    let mut cluster = opened(4);
+    let mut cluster = Answered::opened(4);
     assert_eq!(ask(&mut cluster, 99, 13, &[]), Err(12));
     assert_eq!(ask(&mut cluster, 99, 0, &[1, 2]), Err(12));
     assert_eq!(ask(&mut cluster, 99, 12, &[first]), Ok(1));
@@ -197,7 +188,7 @@ fn no_call_but_issue_knows_a_pair() {
     for (client, length) in [0, 1, 50, 99].into_iter().flat_map(|it| (0..=28).map(move |l| (it, l)))
     {
         let records = [of_gate(1, client, length), of_gate(2, client, 28 - length)];
-        let mut cluster = opened(4);
+        let mut cluster = Answered::opened(4);
         let server = &mut cluster.0.records.servers[0];
         server.held[HELD - 2..].copy_from_slice(&records);
         server.issued = 2;
@@ -217,7 +208,7 @@ fn no_call_but_issue_knows_a_pair() {
 /// What is truncated goes by marks, and what is noted too.
 #[test]
 fn trim_and_note_know_no_pair() {
-    let mut cluster = opened(4);
+    let mut cluster = Answered::opened(4);
     let records = [of_gate(1, 99, 13), of_gate(2, 0, 28)];
     let server = &mut cluster.0.records.servers[0];
     server.held[HELD - 2..].copy_from_slice(&records);

@@ -8,15 +8,17 @@ use cluster::Shape;
 use fate::Fate;
 use segment::header::Stamp;
 use storage::sizes::DATA_LIMIT;
+use storage::sizes::PLACE;
+use storage::sizes::SLOTS;
 
 const REPLICAS: u64 = 7;
 
 const PLACES: u64 = 1000;
 
 // One medium of 1,000 places, seven of them, four lock tables.
-pub const MEDIUM: usize = 64064;
+pub const MEDIUM: usize = SLOTS + 1000 * PLACE;
 
-pub const MEDIA: usize = 448448;
+pub const MEDIA: usize = 7 * MEDIUM;
 
 pub const TABLES: usize = 4096;
 
@@ -58,7 +60,7 @@ fn apply(
     index: &mut [u8],
 ) -> Outcome {
     let none = [0u64; 1];
-    let given = [0u8; 64];
+    let given = [0u8; PLACE];
     let shape = Shape {
         replicas: REPLICAS,
         places: PLACES,

@@ -26,7 +26,7 @@ at-most limit n e = leb-true n limit (both (leb 1 n) (leb n limit) e .1)
 
 pub media-fit : (r n : ℕ) → r ≤ 7 → n ≤ 1000 → r * mediumSize n < 2 ^ 64
 media-fit r n hr hn =
-    let p : r * mediumSize n ≤ 7 * 64064 = mul-le-mul {n₂ = 7} {m₂ = 64064} hr (omega arith) in
+    let p : r * mediumSize n ≤ 7 * 72064 = mul-le-mul {n₂ = 7} {m₂ = 72064} hr (omega arith) in
     omega arith
 
 module _ (h : Shape) (media tables : ℕ) where

@@ -24,6 +24,7 @@ use cluster::Server;
 use cluster::Shape;
 use cluster::TABLES;
 use storage::sizes;
+use storage::sizes::PLACE;
 
 // Whether a call may go on, or why it is declined.
 pub enum Check {
@@ -277,7 +278,7 @@ pub fn declined(records: Records, why: Refusal) -> Outcome
     Outcome {
         records: records,
         answer: Answer::Declined(why),
-        bytes: [0; 64],
+        bytes: [0; PLACE],
     }
 }
 
@@ -287,7 +288,7 @@ pub fn silent(records: Records) -> Outcome
     Outcome {
         records: records,
         answer: Answer::Silent,
-        bytes: [0; 64],
+        bytes: [0; PLACE],
     }
 }
 
@@ -297,7 +298,7 @@ pub fn value(records: Records, v: u64) -> Outcome
     Outcome {
         records: records,
         answer: Answer::Value(v),
-        bytes: [0; 64],
+        bytes: [0; PLACE],
     }
 }
 
@@ -307,7 +308,7 @@ pub fn done(records: Records) -> Outcome
     Outcome {
         records: records,
         answer: Answer::Done,
-        bytes: [0; 64],
+        bytes: [0; PLACE],
     }
 }
 
@@ -321,7 +322,7 @@ pub fn settle(records: Records, i: usize, c: Change) -> Outcome
     Outcome {
         records: servers::put_server(records, i, s),
         answer: a,
-        bytes: [0; 64],
+        bytes: [0; PLACE],
     }
 }
 

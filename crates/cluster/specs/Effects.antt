@@ -32,7 +32,7 @@ use Rattle.cluster.specs.State.{State, idleServer, serverAt, putServer, 
 use Rattle.cluster.specs.Replies.{Reply, ok, silent}
 use Rattle.cluster.specs.Refusals.{answered, isOpen, cleanAt, refusesPrepare, refusesAt, exportedPlaces, sessionAtTop, sessionDiffers}
 
--- what a call leaves: the state, the reply, and the 64 bytes that read answers (zeros for any other reply)
+-- what a call leaves: the state, the reply, and the place that read answers (zeros for any other reply)
 pub record Result : Type 0 where
   pub state : State
   pub reply : Reply
@@ -153,7 +153,7 @@ looked N x s i f =
     let m = mediumAt N i (x .media) in
     record { records = putServer (x .records) s (afterMessage f v i (markOf N m)); media = x .media; tables = x .tables }
 
--- "read i, ID (open): the place's 64 bytes."
+-- "read i, ID (open): the place's 64 bytes": 72 since document 02, No. 7
 unfoldable pub readEffect : ℕ → State → ℕ → ℕ → ℕ → Fate → Result
 readEffect N x s i n f =
     let m = mediumAt N i (x .media) in
@@ -193,7 +193,7 @@ copyEffect r N x s a b f given =
     appendEffect r N x s b (placeAt (markAt (serverAt (x .records) s) b + 1) (mediumAt N a (x .media))) f given
 
 -- document 02, No. 5: "send delivers the one that follows the replica's mark, if it is still held", in place of document 01's "send i (open): writes the
--- issued record, held by the server as 64 bytes, in place (i's mark + 1) of member i." What is held is written as it is.
+-- issued record, held by the server as 64 bytes, in place (i's mark + 1) of member i." (72 bytes since document 02, No. 7.) What is held is written as it is.
 abbrev pub sendEffect : ℕ → ℕ → State → ℕ → ℕ → Fate → List ℕ → Result
 sendEffect r N x s i f given =
     let v = serverAt (x .records) s in

@@ -25,7 +25,7 @@ pub record State : Type 0 where
 -- ---- the records that a server holds
 
 -- document 02, No. 5: "A server record holds the last eight records that its session issued, in order", in place of document 01's "the issued
--- record, held by the server as 64 bytes"
+-- record, held by the server as 64 bytes"; each of them a place, 72 bytes since No. 7
 abbrev pub window : ℕ
 window = 8
 

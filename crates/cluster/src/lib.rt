@@ -2,6 +2,7 @@
 // server's record are in the crate servers.
 use fate::Fate;
 use storage::sizes::PLACE;
+use storage::sizes::Place;
 
 // Numbers, each named once: entries and marks of a record, servers, the marks of a server's lock table and of all four, and the records that a
 // server holds, with their bytes.
@@ -85,7 +86,7 @@ pub struct Request {
     pub client: u32,
     pub generation: u32,
     pub partition: u32,
-    pub sequence: u32,
+    pub sequence: u64,
     pub header: u32,
 }
 
@@ -142,9 +143,9 @@ pub enum Answer {
     Declined(Refusal),
 }
 
-// What a call gives: the records after it, the answer, and the 64 bytes that read answers (zeros for any other reply).
+// What a call gives: the records after it, the answer, and the bytes of the place that read answers (zeros for any other reply).
 pub struct Outcome {
     pub records: Records,
     pub answer: Answer,
-    pub bytes: [u8; 64],
+    pub bytes: Place,
 }

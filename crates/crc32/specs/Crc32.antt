@@ -30,7 +30,7 @@ crcFrom r (b ∷ bs) = crcFrom (bitSteps 8 (bitXor r b)) bs
 unfoldable pub crcOf : List ℕ → ℕ
 crcOf s = bitXor (crcFrom 0xffff_ffff s) 0xffff_ffff
 
--- "CRC-32 of the 28 bytes before (4)", "of the 60 bytes before (4)": the four bytes after the first k are the CRC of these
+-- "CRC-32 of the 28 bytes before (4)", "of the 60 bytes before (4)" (68 since document 02, No. 7): the four bytes after the first k are the CRC of these
 unfoldable pub checked : ℕ → List ℕ → Bool
 checked k s = eqb (crcOf (take k s)) (beOf (part k 4 s))
 

@@ -19,7 +19,8 @@ unfoldable pub allOf : List Write → List ℕ → List ℕ
 allOf [] m = m
 allOf (x ∷ xs) m = allOf xs (writeAt (x .at) (x .bytes) m)
 
--- "A cut write leaves the slot or place old, new, or holding given bytes"; "Given bytes are 64; a slot takes the first 32."
+-- "A cut write leaves the slot or place old, new, or holding given bytes"; "Given bytes are 64; a slot takes the first 32"
+-- (as many as a place has, 72 since document 02, No. 7).
 unfoldable pub leave : Left → List ℕ → Write → List ℕ → List ℕ
 leave Old given x m = m
 leave New given x m = writeAt (x .at) (x .bytes) m

@@ -88,7 +88,7 @@ pub record RequestFits (q : Request) : Type 0 where
   pub client : q .client < 2 ^ 32
   pub generation : q .generation < 2 ^ 32
   pub partition : q .partition < 2 ^ 32
-  pub sequence : q .sequence < 2 ^ 32
+  pub sequence : q .sequence < 2 ^ 64
   pub header : q .header < 2 ^ 32
 
 -- the calls with a message to a replica: bytes for a torn write lie beside them. The other five read none, so that any may stand there.
@@ -107,7 +107,7 @@ messages (call.Stop s) = false
 messages call.Reassign = false
 
 pub record Fits (p : Input) : Type 0 where
-  pub given : messages (p .call) ≡ true → length (p .given) ≡ placeSize  -- "Given bytes are 64"
+  pub given : messages (p .call) ≡ true → length (p .given) ≡ placeSize  -- "Given bytes are 64", 72 since document 02, No. 7
   pub content : Bytes (p .content)
   pub request : (s : ℕ) (q : Request) → p .call ≡ call.Issue s q → RequestFits q
 

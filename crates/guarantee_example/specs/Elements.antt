@@ -3,6 +3,7 @@
 use mathlib.Core.List.{List, [], _∷_}
 use Prim.Native.Nat.{ℕ}
 use lib.ListN.{replicate}
+use Rattle.storage.specs.Sizes.{placeSize}
 use Rattle.storage.specs.Places.{recordBytes}
 use Rattle.segment.specs.declared.header.Stamp.{Stamp}
 use Rattle.segment.specs.Pair.{Files}
@@ -22,7 +23,7 @@ noFiles = record { dataFile = []; indexFile = [] }
 
 -- A call without data and locks. Where it opens a session replica 2 is read. No fate here reads the given bytes.
 abbrev pub plain : Call → Element
-plain c = record { input = record { call = c; content = []; locks = []; given = replicate {A = ℕ} 64 0; stamp = noStamp; files = noFiles }; reader = 2 }
+plain c = record { input = record { call = c; content = []; locks = []; given = replicate {A = ℕ} placeSize 0; stamp = noStamp; files = noFiles }; reader = 2 }
 
 -- a request of this client, with this mark
 abbrev pub request : ℕ → ℕ → Request

@@ -133,7 +133,7 @@ fn call_line(
         };
     }
     let n = size(shape);
-    let given = [0u8; 64];
+    let given = [0u8; PLACE];
     let stamp = Stamp {
         time: 0,
         key: [0u8; 16],

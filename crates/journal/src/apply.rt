@@ -11,6 +11,7 @@ use replica_calls::copy;
 use replica_calls::export;
 use replica_calls::read;
 use segment::header::Stamp;
+use storage::sizes::Place;
 
 pub fn apply(
     shape: Shape,
@@ -20,7 +21,7 @@ pub fn apply(
     call: Call,
     content: &[u8],
     locks: &[u64],
-    given: &[u8; 64],
+    given: &Place,
     stamp: Stamp,
     file: &mut [u8],
     index: &mut [u8],

@@ -10,6 +10,7 @@ use cluster::Records;
 use cluster::Register;
 use cluster::Server;
 use fate::Fate;
+use storage::sizes::PLACE;
 
 // The register and one server's record after a call, and what is answered.
 pub struct Registered {
@@ -67,6 +68,6 @@ pub fn settle(records: Records, i: usize, c: Registered) -> Outcome
     Outcome {
         records: next,
         answer: a,
-        bytes: [0; 64],
+        bytes: [0; PLACE],
     }
 }

@@ -63,8 +63,16 @@ fn request(line: &[u8]) -> Request {
         client: word(line, 3),
         generation: word(line, 4),
         partition: word(line, 5),
-        sequence: word(line, 6),
+        sequence: fields::at(line, 6),
         header: word(line, 7),
+    }
+}
+
+// The greatest number of field k of a request: all but the sequence have 32 bits.
+fn greatest(k: u64) -> u64 {
+    match k {
+        6 => u64::MAX,
+        _ => 4294967295,
     }
 }
 
@@ -72,7 +80,7 @@ fn request(line: &[u8]) -> Request {
 fn are_words(line: &[u8]) -> bool {
     let mut k = 3;
     while k < 8 {
-        if 4294967295 < fields::at(line, k) {
+        if greatest(k as u64) < fields::at(line, k) {
             return false;
         }
         k += 1;

@@ -18,6 +18,7 @@ use replay_state::records;
 use replay_state::sums;
 use run_lines::print;
 use segment::header::Stamp;
+use storage::sizes::Place;
 
 // The lock and its estimate stand behind number 15.
 fn print_refusal(why: Refusal) {
@@ -41,8 +42,8 @@ fn print_answer(a: Answer) {
     }
 }
 
-// The 64 bytes beside an answer: read's, and zeros beside any other.
-fn print_bytes(b: &[u8; 64]) {
+// The bytes beside an answer: read's, and zeros beside any other.
+fn print_bytes(b: &Place) {
     if !octets::all_zero(b) {
         print::text(b"\t");
         print::digits(b);

@@ -2,15 +2,22 @@
 // check sum takes them, then what a call gets beside them. A number outside the slice is 0 and is not stored.
 ghost use Prim.Native.Nat.{_≤_};
 ghost use lib.ListN.{length};
+use storage::sizes::LONG;
+use storage::sizes::PLACE;
+use storage::sizes::Place;
+
+// A place, as numbers of eight bytes.
+pub const NUMBERS: usize = PLACE / LONG;
 
 // Of the register: session, generation, entries. An entry is three numbers: session, 0 if unresolved, closing mark.
 pub const ENTRIES: usize = 2;
 
 // Of each server: phase, session, generation, starting, issued and acknowledged mark; the entries that take handed over; standing
-// and recorded mark of each replica; the eight held records, oldest first, each eight numbers.
+// and recorded mark of each replica; the eight held records, oldest first, each as many numbers as a place
+// has times eight bytes.
 pub const SERVERS: usize = 23;
 
-pub const SERVER: usize = 105;
+pub const SERVER: usize = HELD + 8 * NUMBERS;
 
 pub const HANDED: usize = 6;
 
@@ -19,7 +26,7 @@ pub const REPLICAS: usize = 27;
 pub const HELD: usize = 41;
 
 // How many numbers the records are.
-pub const RECORDS: usize = 443;
+pub const RECORDS: usize = SERVERS + 4 * SERVER;
 
 // R, N and K.
 pub const SHAPE: usize = RECORDS;
@@ -30,9 +37,9 @@ pub const LENT: usize = SHAPE + 3;
 // The bytes that a torn write leaves; a request's data and locks, and how many there are of each.
 pub const GIVEN: usize = LENT + 2;
 
-pub const DATA: usize = GIVEN + 8;
+pub const DATA: usize = GIVEN + NUMBERS;
 
-pub const SIZE: usize = DATA + 8;
+pub const SIZE: usize = DATA + NUMBERS;
 
 pub const LOCKS: usize = SIZE + 1;
 
@@ -66,7 +73,7 @@ pub fn put(w: &mut Cells, k: usize, v: u64) {
 
 // Some numbers from k on.
 pub fn put_run(w: &mut Cells, k: usize, s: &[u64])
-    requires { ⌜ k ≤ 500 ⌝ }
+    requires { ⌜ k ≤ 600 ⌝ }
     requires { ⌜ length (now s) ≤ 8 ⌝ }
 {
     let mut i = 0;
@@ -90,7 +97,7 @@ fn eight(b: &[u8], i: usize) -> u64 {
 
 // Every eight bytes of b are a number, from k on.
 pub fn put_eights(w: &mut Cells, k: usize, b: &[u8])
-    requires { ⌜ k ≤ 500 ⌝ }
+    requires { ⌜ k ≤ 600 ⌝ }
 {
     let mut i = 0;
     while i < b.len() / 8 {
@@ -108,15 +115,15 @@ pub fn fill(b: &mut [u8], numbers: &[u64]) {
     }
 }
 
-// 64 bytes are eight numbers.
-pub fn put_bytes(w: &mut Cells, k: usize, b: &[u8; 64])
-    requires { ⌜ k ≤ 500 ⌝ }
+// The bytes of a place.
+pub fn put_bytes(w: &mut Cells, k: usize, b: &Place)
+    requires { ⌜ k ≤ 600 ⌝ }
 {
     put_eights(w, k, b);
 }
 
-pub fn bytes(w: &[u64], k: usize) -> [u8; 64] {
-    let mut b = [0u8; 64];
+pub fn bytes(w: &[u64], k: usize) -> Place {
+    let mut b = [0u8; PLACE];
     fill(&mut b, from(w, k));
     b
 }

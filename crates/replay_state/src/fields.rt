@@ -41,7 +41,7 @@ pub fn at(line: &[u8], k: usize) -> u64 {
 pub fn store(line: &[u8], k: usize, n: usize, w: &mut Cells, i: usize)
     requires { ⌜ k ≤ 8 ⌝ }
     requires { ⌜ n ≤ 8 ⌝ }
-    requires { ⌜ i ≤ 500 ⌝ }
+    requires { ⌜ i ≤ 600 ⌝ }
 {
     let mut j = 0;
     while j < n {

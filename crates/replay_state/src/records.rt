@@ -34,7 +34,7 @@ fn entry(w: &[u64], k: usize) -> Entry
 }
 
 fn entries(w: &[u64], k: usize) -> [Entry; 7]
-    requires { ⌜ k ≤ 500 ⌝ }
+    requires { ⌜ k ≤ 600 ⌝ }
 {
     let mut out = [entry(w, k); 7];
     let mut i = 1;
@@ -47,7 +47,7 @@ fn entries(w: &[u64], k: usize) -> [Entry; 7]
 
 // Of each replica, whether its standing is above a limit: above 0 it is known, above 1 dropped.
 fn above(w: &[u64], k: usize, limit: u64) -> [bool; 7]
-    requires { ⌜ k ≤ 500 ⌝ }
+    requires { ⌜ k ≤ 600 ⌝ }
 {
     let mut out = [false; 7];
     let mut i = 0;
@@ -59,7 +59,7 @@ fn above(w: &[u64], k: usize, limit: u64) -> [bool; 7]
 }
 
 fn marks(w: &[u64], k: usize) -> [u64; 7]
-    requires { ⌜ k ≤ 500 ⌝ }
+    requires { ⌜ k ≤ 600 ⌝ }
 {
     let mut out = [0u64; 7];
     let mut i = 0;

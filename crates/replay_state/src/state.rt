@@ -10,6 +10,7 @@ use crate::cells::GIVEN;
 use crate::cells::HANDED;
 use crate::cells::HELD;
 use crate::cells::LOCKS;
+use crate::cells::NUMBERS;
 use crate::cells::REPLICAS;
 use crate::cells::SERVER;
 use crate::cells::SERVERS;
@@ -17,13 +18,14 @@ use crate::cells::SHAPE;
 use crate::cells::SIZE;
 use crate::fields;
 use run_lines::hex;
+use storage::sizes::PLACE;
 use text::line;
 
 // The number of a server, replica or held record that field k is; as many as all numbers are where there is none, so that what is
 // counted from there lies behind them.
 fn index(line: &[u8], k: usize, limit: u64) -> usize
     requires { ⌜ limit ≤ 8 ⌝ }
-    ensures { λ r. ⌜ r ≤ 500 ⌝ }
+    ensures { λ r. ⌜ r ≤ 600 ⌝ }
 {
     let v = fields::at(line, k);
     if v < limit {
@@ -34,7 +36,7 @@ fn index(line: &[u8], k: usize, limit: u64) -> usize
 
 // Where the record of the server that field 1 names begins.
 fn server(line: &[u8]) -> usize
-    ensures { λ r. ⌜ r ≤ 52523 ⌝ }
+    ensures { λ r. ⌜ r ≤ 67823 ⌝ }
 {
     SERVERS + SERVER * index(line, 1, 4)
 }
@@ -48,7 +50,7 @@ fn place(line: &[u8], kind: u64) -> usize {
         14 => server(line),
         15 => server(line) + HANDED + 3 * index(line, 2, 7),
         16 => server(line) + REPLICAS + 2 * index(line, 2, 7),
-        19 => server(line) + HELD + 8 * index(line, 2, 8),
+        19 => server(line) + HELD + NUMBERS * index(line, 2, 8),
         _ => GIVEN,
     }
 }
@@ -114,16 +116,16 @@ fn locks(line: &[u8], w: &mut Cells) -> bool {
     true
 }
 
-// Up to 64 bytes, as s has their digits.
+// Up to as many bytes as a place has, as s has their digits.
 fn bytes(s: &[u8], w: &mut Cells, k: usize) -> bool {
     let n = s.len() / 2;
-    if 64 < n {
+    if PLACE < n {
         return false;
     }
     if ALL <= k {
         return false;
     }
-    let mut b = [0u8; 64];
+    let mut b = [0u8; PLACE];
     if !hex::read(s, &mut b[0..n]) {
         return false;
     }
@@ -131,16 +133,16 @@ fn bytes(s: &[u8], w: &mut Cells, k: usize) -> bool {
     true
 }
 
-// held, server, index (0 the oldest to 7 the newest), 64 BYTES: a record that it holds. given, 64 BYTES.
+// held, server, index (0 the oldest to 7 the newest), BYTES of a place: a record that it holds. given, as many BYTES.
 fn whole(line: &[u8], kind: u64, w: &mut Cells) -> bool {
     let s = line::field(line, first(kind));
-    if s.len() != 128 {
+    if s.len() != 2 * PLACE {
         return false;
     }
     bytes(s, w, place(line, kind))
 }
 
-// data, BYTES: up to 64.
+// data, BYTES: up to as many as a place has.
 fn data(line: &[u8], w: &mut Cells) -> bool {
     let s = line::field(line, 1);
     if !bytes(s, w, DATA) {

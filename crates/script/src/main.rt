@@ -19,7 +19,7 @@ use lines::forms::LIMIT;
 const ROOM: usize = 501;
 
 // Seven media of 100 places, and four lock tables.
-const MEDIA: usize = 45248;
+const MEDIA: usize = 50848;
 
 const TABLES: usize = 4096;
 

@@ -16,7 +16,7 @@ use Rattle.storage.proofs.Scan.{place-here, log-valid}
 use Rattle.storage.proofs.PlaceCases.{valid-tests}
 use Rattle.segment.specs.declared.header.Stamp.{Stamp}
 use Rattle.segment.specs.Header.{headerSize, headerBytes}
-use Rattle.segment.specs.Records.{recordBytes, recordSize, longestRecord}
+use Rattle.segment.specs.Records.{recordBytes, recordSize, longestRecord, leastRecord}
 use Rattle.segment.specs.Pair.{offsetSize, recordsOf, offsetsFrom, recordsSize, AllSized}
 use Rattle.segment.proofs.Written.{size-written}
 
@@ -42,8 +42,8 @@ length-place k n m h l = length-part (placeOffset (n + 1)) placeSize m (omega ar
 
 -- ---- their size
 
--- a record is 40 bytes and its data
-pub size-is : (p : List ℕ) → recordSize p ≡ 40 + sizeOf p
+-- a record is so many bytes and its data
+pub size-is : (p : List ℕ) → recordSize p ≡ leastRecord + sizeOf p
 unfolding recordSize
 size-is p = omega arith
 

@@ -15,7 +15,7 @@ use Rattle.storage.specs.Layout.{layoutSize, padded, headOf}
 use Rattle.storage.specs.Sizes.{placeLayout, placeSize, dataLimit}
 use Rattle.storage.specs.declared.place.Fields.{Fields}
 use Rattle.storage.specs.Places.{placeNumbers, idOf, sizeOf, fieldsIn, dataOf}
-use Rattle.segment.specs.Records.{recordLayout, recordNumbers, recordBytes, recordSize}
+use Rattle.segment.specs.Records.{recordLayout, recordNumbers, recordBytes, recordSize, numbersSize, contentOffset}
 
 -- no zeros stand behind the data of a record
 pub unpadded : (d : List ℕ) → padded (recordLayout (length d)) d ≡ d
@@ -33,13 +33,13 @@ length-record f d =
     ∙ omega arith
 
 -- a place's numbers, written as they were read, are its first bytes
-pub numbers-kept : (s : List ℕ) → Bytes s → 32 ≤ length s → fieldsOf (placeNumbers (fieldsIn s) (sizeOf s)) ≡ part 0 32 s
+pub numbers-kept : (s : List ℕ) → Bytes s → numbersSize ≤ length s → fieldsOf (placeNumbers (fieldsIn s) (sizeOf s)) ≡ part 0 numbersSize s
 unfolding fieldsIn idOf sizeOf
 numbers-kept s b h = numbers-back (placeLayout .widths) 0 s b h
 
 pub length-data : (p : List ℕ) → length p ≡ placeSize → sizeOf p ≤ dataLimit → length (dataOf p) ≡ sizeOf p
-unfolding dataOf
-length-data p l h = length-part 32 (sizeOf p) p (omega arith)
+unfolding dataOf sizeOf
+length-data p l h = length-part numbersSize (sizeOf p) p (omega arith)
 
 -- a record is as long as its place says
 pub size-written : (p : List ℕ) → length p ≡ placeSize → sizeOf p ≤ dataLimit → length (recordBytes (fieldsIn p) (dataOf p)) ≡ recordSize p
@@ -48,8 +48,8 @@ size-written p l h = length-record (fieldsIn p) (dataOf p) ∙ ap (λ (k : ℕ).
 
 -- the four writes
 pub record-written : (p m l₁ l₂ l₃ l₄ : List ℕ) → Bytes p → length p ≡ placeSize → sizeOf p ≤ dataLimit → length m ≡ recordSize p
-    → l₁ ≡ writeAt 0 (part 0 32 p) m → l₂ ≡ writeAt 32 (beBytes 4 (crcOf (dataOf p))) l₁ → l₃ ≡ writeAt 36 (dataOf p) l₂
-    → l₄ ≡ writeAt (36 + sizeOf p) (beBytes 4 (crcOf (take (36 + sizeOf p) l₃))) l₃
+    → l₁ ≡ writeAt 0 (part 0 numbersSize p) m → l₂ ≡ writeAt numbersSize (beBytes 4 (crcOf (dataOf p))) l₁ → l₃ ≡ writeAt contentOffset (dataOf p) l₂
+    → l₄ ≡ writeAt (contentOffset + sizeOf p) (beBytes 4 (crcOf (take (contentOffset + sizeOf p) l₃))) l₃
     → l₄ ≡ recordBytes (fieldsIn p) (dataOf p)
 unfolding recordBytes recordSize
 record-written p m l₁ l₂ l₃ l₄ b l h n e₁ e₂ e₃ e₄ =
@@ -58,12 +58,12 @@ record-written p m l₁ l₂ l₃ l₄ b l h n e₁ e₂ e₃ e₄ =
     let L = recordLayout (length d) in
     let fs = placeNumbers (fieldsIn p) (length d) in
     let whole = recordNumbers (fieldsIn p) d in
-    let numbers : part 0 32 p ≡ fieldsOf fs = sym (numbers-kept p b (omega arith)) ∙ ap (λ (k : ℕ). fieldsOf (placeNumbers (fieldsIn p) k)) (sym ld) in
+    let numbers : part 0 numbersSize p ≡ fieldsOf fs = sym (numbers-kept p b (omega arith)) ∙ ap (λ (k : ℕ). fieldsOf (placeNumbers (fieldsIn p) k)) (sym ld) in
     let f₁ : l₁ ≡ writeAt 0 (fieldsOf fs) m = e₁ ∙ ap (λ (r : List ℕ). writeAt 0 r m) numbers in
     let f₂ : l₂ ≡ writeAt 0 (fieldsOf whole) m = next-field fs 0 4 (crcOf d) m l₁ l₂ zero-le f₁ e₂ in
     let f₃ : l₃ ≡ writeAt 0 (fieldsOf whole ++ d) m =
-    e₃ ∙ ap (writeAt 36 d) f₂ ∙ write-write 0 36 (fieldsOf whole) d m zero-le (ap (λ (k : ℕ). 0 + k) (length-fields whole)) in
+    e₃ ∙ ap (writeAt contentOffset d) f₂ ∙ write-write 0 contentOffset (fieldsOf whole) d m zero-le (ap (λ (k : ℕ). 0 + k) (length-fields whole)) in
     let head : fieldsOf whole ++ d ≡ headOf L whole d = ap (λ (r : List ℕ). fieldsOf whole ++ r) (sym (unpadded d)) in
-    let size : length (headOf L whole d) ≡ 36 + sizeOf p =
+    let size : length (headOf L whole d) ≡ contentOffset + sizeOf p =
     ap length (sym head) ∙ length-append (fieldsOf whole) d ∙ ap₂ (λ (a c : ℕ). a + c) (length-fields whole) ld in
-    seal-all (36 + sizeOf p) (headOf L whole d) m l₃ l₄ size (omega (arith, n)) (f₃ ∙ ap (λ (r : List ℕ). writeAt 0 r m) head) e₄
+    seal-all (contentOffset + sizeOf p) (headOf L whole d) m l₃ l₄ size (omega (arith, n)) (f₃ ∙ ap (λ (r : List ℕ). writeAt 0 r m) head) e₄

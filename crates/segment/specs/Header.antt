@@ -1,5 +1,6 @@
 -- The header of a segment's two files, "Exactly same" in both (document 004). Document 02, No. 3: "a 128-byte header for each file .. in the fields and
--- widths of document 004, big-endian, with version 1, partition 0, first ID 1, time and cluster key handed in, and the rest zero".
+-- widths of document 004, big-endian, with version 1, partition 0, first ID 1, time and cluster key handed in, and the rest zero"; No. 7: "Segment files
+-- carry the 64 bits too, as version 2, and only version 2 is read".
 -- Assumes nothing.
 use mathlib.Core.List.{List, [], _∷_, _++_}
 use Prim.Native.Nat.{ℕ}
@@ -7,9 +8,9 @@ use lib.ListN.{replicate}
 use Rattle.octets.specs.Octets.{fieldsOf, paired}
 use Rattle.segment.specs.declared.header.Stamp.{Stamp}
 
--- "version 1"
+-- "version 2"
 abbrev pub version : ℕ
-version = 1
+version = 2
 
 -- "partition 0", of the header; a record keeps its own
 abbrev pub headerPartition : ℕ

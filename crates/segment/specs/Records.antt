@@ -1,5 +1,6 @@
 -- A record of a segment's data file. Document 02, No. 3: "A record is ID, request, header, length, data check, data, record check; 004's table has one
 -- checksum row more, which we drop. The checks are CRC-32 of the data and of the record before its check." "IDs stay ours."
+-- Document 02, No. 7: "Segment files carry the 64 bits too".
 -- The numbers before the data check are those of a place, in the same order and widths (storage specs/Sizes `placeLayout`): a width is named once, and
 -- both are read alike.
 -- Assumes nothing.
@@ -17,6 +18,16 @@ use Rattle.storage.specs.Places as place
 -- a record with k bytes of data: no zeros stand behind them
 abbrev pub recordLayout : ℕ → Layout
 recordLayout k = record { widths = placeLayout .widths ++ (checkSize ∷ []); limit = k; zeros = 0 }
+
+-- the bytes before the data check, before the data, and of a record without data
+abbrev pub numbersSize : ℕ
+numbersSize = dataOffset placeLayout
+
+abbrev pub contentOffset : ℕ
+contentOffset = dataOffset (recordLayout 0)
+
+abbrev pub leastRecord : ℕ
+leastRecord = layoutSize (recordLayout 0)
 
 -- ---- writing
 

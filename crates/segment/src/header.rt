@@ -10,7 +10,7 @@ pub const KEY: usize = 16;
 
 pub const RESERVED: usize = 88;
 
-pub const VERSION: u64 = 1;
+pub const VERSION: u64 = 2;
 
 pub const FIRST_ID: u64 = 1;
 

@@ -14,12 +14,12 @@ use Rattle.octets.proofs.Laws.{between-part, length-part, length-write, mid-wri
 use Rattle.octets.proofs.Numbers.{length-fields}
 use Rattle.crc32.specs.Crc32.{crcOf}
 use Rattle.crc32.proofs.Sealed.{seal-all}
-use Rattle.storage.specs.Layout.{headOf, padded}
+use Rattle.storage.specs.Layout.{checkOffset, headOf, padded}
 use Rattle.storage.specs.Sizes.{placeLayout, placeSize, dataLimit, slotsSize, placeOffset}
 use Rattle.storage.specs.Places.{placeNumbers, sizeOf, fieldsIn, recordBytes}
 use Rattle.storage.proofs.Layouts.{length-head, record-length}
 use Rattle.storage.proofs.RecordWritten.{fill-written}
-use Rattle.segment.specs.Records.{recordSize, contentIn, placeIn, isRecord}
+use Rattle.segment.specs.Records.{recordSize, contentIn, placeIn, isRecord, numbersSize, contentOffset}
 use Rattle.segment.proofs.Written.{numbers-kept}
 use Rattle.segment_import.specs.Import.{recordsUnfit, filled}
 use Rattle.segment.proofs.Writing.{size-is}
@@ -30,7 +30,7 @@ use Rattle.base.proofs.Tests.{neither}
 
 pub length-content : (s : List ℕ) → recordSize s ≤ length s → length (contentIn s) ≡ sizeOf s
 unfolding contentIn
-length-content s h = length-part 36 (sizeOf s) s (omega (arith, size-is s))
+length-content s h = length-part contentOffset (sizeOf s) s (omega (arith, size-is s))
 
 module _ (s m : List ℕ) (b : Bytes s) (size : length m ≡ placeSize) (short : sizeOf s ≤ dataLimit) (whole : recordSize s ≤ length s) where
   abbrev d : List ℕ
@@ -39,40 +39,40 @@ module _ (s m : List ℕ) (b : Bytes s) (size : length m ≡ placeSize) (short :
   abbrev fs : List (ℕ × ℕ)
   fs = placeNumbers (fieldsIn s) (length (contentIn s))
 
-  numbers : part 0 32 s ≡ fieldsOf fs
+  numbers : part 0 numbersSize s ≡ fieldsOf fs
   numbers =
       sym (numbers-kept s b (omega (arith, size-is s)))
       ∙ ap (λ (k : ℕ). fieldsOf (placeNumbers (fieldsIn s) k)) (sym (length-content s whole))
 
   -- the four writes
-  place-four : (l₁ l₂ y l₃ : List ℕ) → l₁ ≡ writeAt 0 (part 0 32 s) m → l₂ ≡ writeAt 32 (contentIn s) l₁
-      → (let k = 32 + length (contentIn s) in
-      y ≡ replicate (length (take (60 - k) (drop k l₂))) 0
-      → l₃ ≡ writeAt 60 (beBytes 4 (crcOf (take 60 (putMid k (60 - k) l₂ y)))) (putMid k (60 - k) l₂ y) → l₃ ≡ placeIn s)
+  place-four : (l₁ l₂ y l₃ : List ℕ) → l₁ ≡ writeAt 0 (part 0 numbersSize s) m → l₂ ≡ writeAt numbersSize (contentIn s) l₁
+      → (let k = numbersSize + length (contentIn s) in
+      y ≡ replicate (length (take (checkOffset placeLayout - k) (drop k l₂))) 0
+      → l₃ ≡ writeAt (checkOffset placeLayout) (beBytes 4 (crcOf (take (checkOffset placeLayout) (putMid k (checkOffset placeLayout - k) l₂ y)))) (putMid k (checkOffset placeLayout - k) l₂ y) → l₃ ≡ placeIn s)
   unfolding placeIn recordBytes
   place-four l₁ l₂ y l₃ e₁ e₂ e₃ e₄ =
-      let k = 32 + length d in
+      let k = numbersSize + length d in
       let ld = length-content s whole in
       let f₁ : l₁ ≡ writeAt 0 (fieldsOf fs) m = e₁ ∙ ap (λ (r : List ℕ). writeAt 0 r m) numbers in
       let n₁ : length l₁ ≡ placeSize = ap length f₁ ∙ length-write 0 (fieldsOf fs) m (omega (arith, length-fields fs, size)) ∙ size in
-      let f₂ : putMid k (60 - k) l₂ y ≡ writeAt 32 (padded placeLayout d) l₁ = fill-written d l₁ l₂ y n₁ (omega (arith, ld, short)) e₂ e₃ in
-      let f₃ : putMid k (60 - k) l₂ y ≡ writeAt 0 (headOf placeLayout fs d) m =
-      f₂ ∙ ap (writeAt 32 (padded placeLayout d)) f₁
-      ∙ write-write 0 32 (fieldsOf fs) (padded placeLayout d) m zero-le (ap (λ (j : ℕ). 0 + j) (length-fields fs)) in
-      seal-all 60 (headOf placeLayout fs d) m (putMid k (60 - k) l₂ y) l₃ (length-head placeLayout fs d refl (omega (arith, ld, short))) (sym size) f₃ e₄
+      let f₂ : putMid k (checkOffset placeLayout - k) l₂ y ≡ writeAt numbersSize (padded placeLayout d) l₁ = fill-written d l₁ l₂ y n₁ (omega (arith, ld, short)) e₂ e₃ in
+      let f₃ : putMid k (checkOffset placeLayout - k) l₂ y ≡ writeAt 0 (headOf placeLayout fs d) m =
+      f₂ ∙ ap (writeAt numbersSize (padded placeLayout d)) f₁
+      ∙ write-write 0 numbersSize (fieldsOf fs) (padded placeLayout d) m zero-le (ap (λ (j : ℕ). 0 + j) (length-fields fs)) in
+      seal-all (checkOffset placeLayout) (headOf placeLayout fs d) m (putMid k (checkOffset placeLayout - k) l₂ y) l₃ (length-head placeLayout fs d refl (omega (arith, ld, short))) (sym size) f₃ e₄
 
   -- the same, with the length that the code has read
-  pub place-written : (r : ℕ) (l₁ l₂ y l₃ : List ℕ) → r ≡ sizeOf s → l₁ ≡ writeAt 0 (part 0 32 s) m → l₂ ≡ writeAt 32 (take (36 + r - 36) (drop 36 s)) l₁
-      → y ≡ replicate (length (take (60 - (32 + r)) (drop (32 + r) l₂))) 0
-      → (let p = putMid (32 + r) (60 - (32 + r)) l₂ y in l₃ ≡ writeAt 60 (beBytes 4 (crcOf (take 60 p))) p) → l₃ ≡ placeIn s
+  pub place-written : (r : ℕ) (l₁ l₂ y l₃ : List ℕ) → r ≡ sizeOf s → l₁ ≡ writeAt 0 (part 0 numbersSize s) m → l₂ ≡ writeAt numbersSize (take (contentOffset + r - contentOffset) (drop contentOffset s)) l₁
+      → y ≡ replicate (length (take (checkOffset placeLayout - (numbersSize + r)) (drop (numbersSize + r) l₂))) 0
+      → (let p = putMid (numbersSize + r) (checkOffset placeLayout - (numbersSize + r)) l₂ y in l₃ ≡ writeAt (checkOffset placeLayout) (beBytes 4 (crcOf (take (checkOffset placeLayout) p))) p) → l₃ ≡ placeIn s
   unfolding contentIn
   place-written r l₁ l₂ y l₃ q e₁ e₂ e₃ e₄ =
       let w : r ≡ length d = q ∙ sym (length-content s whole) in
-      let same : take (36 + r - 36) (drop 36 s) ≡ contentIn s = between-part 36 r s ∙ ap (λ (j : ℕ). part 36 j s) q in
-      let after : ℕ → List ℕ = λ j. putMid (32 + j) (60 - (32 + j)) l₂ y in
-      place-four l₁ l₂ y l₃ e₁ (e₂ ∙ ap (λ (c : List ℕ). writeAt 32 c l₁) same)
-      (e₃ ∙ ap (λ (j : ℕ). replicate (length (take (60 - (32 + j)) (drop (32 + j) l₂))) 0) w)
-      (e₄ ∙ ap (λ (j : ℕ). writeAt 60 (beBytes 4 (crcOf (take 60 (after j)))) (after j)) w)
+      let same : take (contentOffset + r - contentOffset) (drop contentOffset s) ≡ contentIn s = between-part contentOffset r s ∙ ap (λ (j : ℕ). part contentOffset j s) q in
+      let after : ℕ → List ℕ = λ j. putMid (numbersSize + j) (checkOffset placeLayout - (numbersSize + j)) l₂ y in
+      place-four l₁ l₂ y l₃ e₁ (e₂ ∙ ap (λ (c : List ℕ). writeAt numbersSize c l₁) same)
+      (e₃ ∙ ap (λ (j : ℕ). replicate (length (take (checkOffset placeLayout - (numbersSize + j)) (drop (numbersSize + j) l₂))) 0) w)
+      (e₄ ∙ ap (λ (j : ℕ). writeAt (checkOffset placeLayout) (beBytes 4 (crcOf (take (checkOffset placeLayout) (after j)))) (after j)) w)
 
 -- ---- all places
 

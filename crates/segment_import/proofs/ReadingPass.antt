@@ -15,7 +15,7 @@ use Rattle.octets.proofs.Laws.{between-part}
 use Rattle.storage.specs.Sizes.{dataLimit}
 use Rattle.storage.specs.Places.{sizeOf}
 use Rattle.segment.specs.Pair.{offsetSize}
-use Rattle.segment.specs.Records.{recordSize, longestRecord, sized, isRecord}
+use Rattle.segment.specs.Records.{recordSize, longestRecord, sized, isRecord, numbersSize}
 use Rattle.segment_import.specs.Import.{Reply, ok, no, offsetsDiffer, recordsUnfit}
 use Rattle.segment.proofs.Writing.{size-is}
 use Rattle.segment_import.proofs.RecordTests.{is-sized}
@@ -31,11 +31,11 @@ unfolding isRecord
 unsized n s e = go (leb (sizeOf s) dataLimit) refl
   where
     short : sizeOf s ≤ dataLimit → length s < recordSize s
-    short h = go′ (leb 32 (length s)) refl
+    short h = go′ (leb numbersSize (length s)) refl
       where
-        go′ : (b : Bool) → leb 32 (length s) ≡ b → length s < recordSize s
-        go′ true w = absurd (false≢true (sym e ∙ is-sized s .1 (record { inside = leb-true 32 (length s) w; short = h })))
-        go′ false w = omega (arith, size-is s, leb-false 32 (length s) w)
+        go′ : (b : Bool) → leb numbersSize (length s) ≡ b → length s < recordSize s
+        go′ true w = absurd (false≢true (sym e ∙ is-sized s .1 (record { inside = leb-true numbersSize (length s) w; short = h })))
+        go′ false w = omega (arith, size-is s, leb-false numbersSize (length s) w)
 
     go : (b : Bool) → leb (sizeOf s) dataLimit ≡ b → isRecord n s ≡ false
     go true w = let h = leb-true (sizeOf s) dataLimit w in sym (cut-short n s h (short h))
@@ -115,7 +115,7 @@ module _ (b : Bool) (n at i count : ℕ) (index file : List ℕ) where
       ∙ ap₂ (λ (p : Bool) (j : ℕ). judged p (n + 1 + 1) (count - (n + 1)) (drop (i + offsetSize) index) (at + j) (drop (at + j) file)) (sym w) (sym q)
 
   -- the record is read at its offset, and the next one begins not far behind the file's end
-  pub within : sized (drop at file) ≡ true → (32 ≤ length (drop at file)) × (sizeOf (drop at file) ≤ dataLimit) × (at + recordSize (drop at file) ≤ length file + longestRecord)
+  pub within : sized (drop at file) ≡ true → (numbersSize ≤ length (drop at file)) × (sizeOf (drop at file) ≤ dataLimit) × (at + recordSize (drop at file) ≤ length file + longestRecord)
   within z =
       let s = is-sized (drop at file) .0 z in
       (s .inside, s .short, omega (arith, s .inside, s .short, size-is (drop at file), length-drop at file))

@@ -14,7 +14,7 @@ use Rattle.crc32.specs.Crc32.{crcOf, checked}
 use Rattle.storage.specs.Layout.{layoutSize, formed}
 use Rattle.storage.specs.Sizes.{dataLimit}
 use Rattle.storage.specs.Places.{idOf, sizeOf}
-use Rattle.segment.specs.Records.{recordLayout, recordSize, checkIn, contentIn, sized, isRecord}
+use Rattle.segment.specs.Records.{recordLayout, recordSize, checkIn, contentIn, sized, isRecord, numbersSize, contentOffset}
 
 -- what `&s[a..]` refers to
 pub to-end : (a : ℕ) (s : List ℕ) → take (length s - a) (drop a s) ≡ drop a s
@@ -22,13 +22,13 @@ to-end a s = take-all (length s - a) (drop a s) (omega (arith, length-drop a s))
 
 -- ---- its size
 
-pub not-there : (s : List ℕ) → length s < 32 → sized s ≡ false
+pub not-there : (s : List ℕ) → length s < numbersSize → sized s ≡ false
 unfolding sized
-not-there s h = rw (lt-leb 32 (length s) h)
+not-there s h = rw (lt-leb numbersSize (length s) h)
 
 pub too-long : (s : List ℕ) → dataLimit < sizeOf s → sized s ≡ false
 unfolding sized
-too-long s h = go (leb 32 (length s))
+too-long s h = go (leb numbersSize (length s))
   where
     go : (b : Bool) → (b && leb (sizeOf s) dataLimit) ≡ false
     go true = lt-leb (sizeOf s) dataLimit h
@@ -51,13 +51,13 @@ module _ (n : ℕ) (s : List ℕ) where
   unfolding isRecord
   within h = rw (le-leb (sizeOf s) dataLimit h)
 
-  length-record : length r ≡ recordSize s → formed (recordLayout k) k r ≡ checked (36 + k) r
+  length-record : length r ≡ recordSize s → formed (recordLayout k) k r ≡ checked (contentOffset + k) r
   unfolding recordSize allZero
   length-record e =
       let q : k + 0 - k ≡ 0 = omega arith in
-      let none : part (36 + k) (k + 0 - k) r ≡ [] = ap (λ (j : ℕ). part (36 + k) j r) q in
+      let none : part (contentOffset + k) (k + 0 - k) r ≡ [] = ap (λ (j : ℕ). part (contentOffset + k) j r) q in
       rw (eq-eqb (length r) (layoutSize (recordLayout k)) e, le-leb k k (omega arith), none)
-      (let w : 36 + (k + 0) ≡ 36 + k = omega arith in ap (λ (j : ℕ). checked j r) w)
+      (let w : contentOffset + (k + 0) ≡ contentOffset + k = omega arith in ap (λ (j : ℕ). checked j r) w)
 
   pub cut-short : sizeOf s ≤ dataLimit → length s < recordSize s → false ≡ isRecord n s
   unfolding recordSize
@@ -80,10 +80,10 @@ module _ (n : ℕ) (s : List ℕ) where
       go true = refl
       go false = refl
 
-  pub by-check : sizeOf s ≤ dataLimit → recordSize s ≤ length s → idOf s ≡ n → crcOf (contentIn s) ≡ checkIn s → checked (36 + sizeOf s) (take (recordSize s) s) ≡ isRecord n s
+  pub by-check : sizeOf s ≤ dataLimit → recordSize s ≤ length s → idOf s ≡ n → crcOf (contentIn s) ≡ checkIn s → checked (contentOffset + sizeOf s) (take (recordSize s) s) ≡ isRecord n s
   by-check h l i e =
       let lr : length r ≡ recordSize s = length-take (recordSize s) s ∙ omega (arith, l) in
-      sym (within h ∙ rw (eq-eqb (idOf s) n i, eq-eqb (checkIn s) (crcOf (contentIn s)) (sym e), length-record lr) (go (checked (36 + k) r)))
+      sym (within h ∙ rw (eq-eqb (idOf s) n i, eq-eqb (checkIn s) (crcOf (contentIn s)) (sym e), length-record lr) (go (checked (contentOffset + k) r)))
     where
       go : (b : Bool) → (b && true) ≡ b
       go true = refl

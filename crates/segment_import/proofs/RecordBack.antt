@@ -25,7 +25,7 @@ use Rattle.storage.specs.Places.{idOf, sizeOf, fieldsIn, dataOf, validPlace, Fi
 use Rattle.storage.proofs.Layouts as layout
 use Rattle.storage.proofs.Records as records
 use Rattle.storage.proofs.PlaceCases.{valid-tests}
-use Rattle.segment.specs.Records.{recordLayout, recordNumbers, recordBytes, recordSize, checkIn, contentIn, placeIn, sized, isRecord}
+use Rattle.segment.specs.Records.{recordLayout, recordNumbers, recordBytes, recordSize, checkIn, contentIn, placeIn, sized, isRecord, numbersSize, contentOffset, leastRecord}
 use Rattle.segment.proofs.Written.{length-record}
 use Rattle.segment.proofs.Writing.{size-is}
 use Rattle.segment_import.proofs.RecordTests.{IsRecord, front-part, is-record}
@@ -49,7 +49,7 @@ module _ (f : Fields) (d rest : List ℕ) (w : Fitting f) (short : length d ≤ 
   fits =
       (w .id, (w .client, (w .generation, (w .partition, (w .sequence, (w .header, (lt-of-le-of-lt short (lit< tt), (crc-lt d b, tt))))))))
 
-  long : length (recordBytes f d) ≡ 40 + length d
+  long : length (recordBytes f d) ≡ leastRecord + length d
   long = length-record f d ∙ omega arith
 
   front : take (length (recordBytes f d)) (recordBytes f d ++ rest) ≡ recordBytes f d
@@ -75,7 +75,7 @@ module _ (f : Fields) (d rest : List ℕ) (w : Fitting f) (short : length d ≤ 
   id-back = number 0
 
   fields-back : fieldsIn (recordBytes f d ++ rest) ≡ f
-  unfolding fieldsIn
+  unfolding fieldsIn idOf
   fields-back =
       λ i. record {
         id = id-back i;
@@ -94,9 +94,9 @@ module _ (f : Fields) (d rest : List ℕ) (w : Fitting f) (short : length d ≤ 
   unfolding contentIn recordBytes
   content-back =
       let s = recordBytes f d ++ rest in
-      ap (λ (k : ℕ). part 36 k s) size-back
-      ∙ sym (front-part 36 (length d) (length (recordBytes f d)) s (omega (arith, long)))
-      ∙ ap (part 36 (length d)) front
+      ap (λ (k : ℕ). part contentOffset k s) size-back
+      ∙ sym (front-part contentOffset (length d) (length (recordBytes f d)) s (omega (arith, long)))
+      ∙ ap (part contentOffset (length d)) front
       ∙ layout.data-again (recordLayout (length d)) (recordNumbers f d) d refl (le-refl (length d))
 
   whole-back : recordSize (recordBytes f d ++ rest) ≡ length (recordBytes f d)
@@ -110,8 +110,8 @@ module _ (f : Fields) (d rest : List ℕ) (w : Fitting f) (short : length d ≤ 
   unfolding sized
   sized-back =
       let s = recordBytes f d ++ rest in
-      and-eq-true-iff (leb 32 (length s)) (leb (sizeOf s) dataLimit) .1
-      (le-leb 32 (length s) (omega (arith, length-append (recordBytes f d) rest, long)), le-leb (sizeOf s) dataLimit (omega (arith, size-back)))
+      and-eq-true-iff (leb numbersSize (length s)) (leb (sizeOf s) dataLimit) .1
+      (le-leb numbersSize (length s) (omega (arith, length-append (recordBytes f d) rest, long)), le-leb (sizeOf s) dataLimit (omega (arith, size-back)))
 
   pub record-back : isRecord (f .id) (recordBytes f d ++ rest) ≡ true
   unfolding isRecord recordBytes
@@ -154,7 +154,7 @@ module _ (n : ℕ) (s : List ℕ) (b : Bytes s) (v : isRecord n s ≡ true) wher
 
   content-same : dataIn (recordLayout (sizeOf s)) (sizeOf s) (take (recordSize s) s) ≡ contentIn s
   unfolding contentIn
-  content-same = front-part 36 (sizeOf s) (recordSize s) s (omega (arith, size-is s))
+  content-same = front-part contentOffset (sizeOf s) (recordSize s) s (omega (arith, size-is s))
 
   content-length : length (contentIn s) ≡ sizeOf s
   content-length = ap length (sym content-same) ∙ rewritten .size
@@ -191,7 +191,7 @@ pub record Forth (n : ℕ) (s : List ℕ) : Type 0 where
   pub size : recordSize (placeIn s) ≡ recordSize s
 
 pub forth : (n : ℕ) (s : List ℕ) → Bytes s → isRecord n s ≡ true → Forth n s
-unfolding placeIn recordSize fieldsIn
+unfolding placeIn recordSize fieldsIn idOf
 forth n s b v =
     let r = read n s b v in
     record {
@@ -205,7 +205,7 @@ pub place-long : (n : ℕ) (s : List ℕ) → isRecord n s ≡ true → length (
 unfolding placeIn place.recordBytes contentIn
 place-long n s v =
     let c = contentIn s in
-    let short : length c ≤ dataLimit = omega (arith, length-take (sizeOf s) (drop 36 s), is-record n s .0 v .short) in
+    let short : length c ≤ dataLimit = omega (arith, length-take (sizeOf s) (drop contentOffset s), is-record n s .0 v .short) in
     layout.record-length placeLayout (place.placeNumbers (fieldsIn s) (length c)) c refl short
 
 -- ================ the record of a place, and bytes behind it
@@ -221,7 +221,7 @@ pub record Back (n : ℕ) (p rest : List ℕ) : Type 0 where
   pub place : placeIn (recordThen p rest) ≡ p
 
 pub back : (n : ℕ) (p rest : List ℕ) → Bytes p → validPlace n p ≡ true → Back n p rest
-unfolding recordSize fieldsIn
+unfolding recordSize fieldsIn idOf
 back n p rest b v =
     let o = records.only-records n p b .0 v in
     let r = records.read-back (o .fields) (o .content) (o .fitting) (o .short) (o .bytes) in

@@ -22,7 +22,7 @@ use Rattle.storage.specs.Layout.{checkSize, dataOffset, checkOffset, formed}
 use Rattle.storage.specs.Sizes.{placeLayout, dataLimit}
 use Rattle.storage.specs.Places.{idOf, sizeOf}
 use Rattle.storage.proofs.Layouts as layout
-use Rattle.segment.specs.Records.{recordLayout, recordSize, checkIn, contentIn, sized, isRecord}
+use Rattle.segment.specs.Records.{recordLayout, recordSize, checkIn, contentIn, sized, isRecord, contentOffset}
 
 -- ================ the statements
 
@@ -54,9 +54,9 @@ pub front-part : (o n k : ℕ) (s : List ℕ) → o + n ≤ k → part o n (take
 front-part o n k s h = let q : 0 + o ≡ o = omega arith in part-part 0 k o n s h ∙ ap (λ (i : ℕ). part i n s) q
 
 -- no zeros stand behind the data of a record
-no-tail : (k : ℕ) (s : List ℕ) → allZero (part (36 + k) (k + 0 - k) s) ≡ true
+no-tail : (k : ℕ) (s : List ℕ) → allZero (part (contentOffset + k) (k + 0 - k) s) ≡ true
 unfolding allZero
-no-tail k s = let q : k + 0 - k ≡ 0 = omega arith in ap (λ (i : ℕ). allZero (part (36 + k) i s)) q
+no-tail k s = let q : k + 0 - k ≡ 0 = omega arith in ap (λ (i : ℕ). allZero (part (contentOffset + k) i s)) q
 
 module _ (s : List ℕ) where
   -- the front of s, as long as the record should be

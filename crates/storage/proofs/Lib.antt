@@ -1,4 +1,5 @@
 pub mod Layouts
+pub mod PlaceLayouts
 pub mod PlaceCases
 pub mod RecordWritten
 pub mod SlotReadBack

@@ -20,7 +20,7 @@ pub length-wiped : length wiped ≡ placeSize
 unfolding wiped
 length-wiped = refl
 
--- 64 zeros are no record
+-- zeros are no record
 pub wiped-invalid : (n : ℕ) → 1 ≤ n → validPlace n wiped ≡ false
 unfolding wiped idOf beOf beFrom
 wiped-invalid n h = sym (bad-id n wiped (λ e. omega (arith, e)))

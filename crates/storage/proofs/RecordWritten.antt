@@ -23,11 +23,12 @@ fill-written d m l z hm hd e f =
     let c = checkOffset placeLayout in
     let k = o + length d in
     let n : length l ≡ placeSize = ap length e ∙ length-write o d m (omega arith) ∙ hm in
-    let q : length (take (c - k) (drop k l)) ≡ dataLimit - length d = length-between k c l (omega arith) (omega arith) ∙ omega arith in
-    let r : k + length (replicate {A = ℕ} (dataLimit - length d) 0) ≡ c = simp length-replicate (omega arith) in
-    mid-write k c l z (replicate (dataLimit - length d) 0) r (f ∙ ap (λ (i : ℕ). replicate i 0) q)
-    ∙ ap (writeAt k (replicate (dataLimit - length d) 0)) e
-    ∙ write-write o k d (replicate (dataLimit - length d) 0) m (omega arith) refl
+    let behind = dataLimit + placeLayout .zeros - length d in
+    let q : length (take (c - k) (drop k l)) ≡ behind = length-between k c l (omega arith) (omega arith) ∙ omega arith in
+    let r : k + length (replicate {A = ℕ} behind 0) ≡ c = simp length-replicate (omega arith) in
+    mid-write k c l z (replicate behind 0) r (f ∙ ap (λ (i : ℕ). replicate i 0) q)
+    ∙ ap (writeAt k (replicate behind 0)) e
+    ∙ write-write o k d (replicate behind 0) m (omega arith) refl
 
 module _ (t : Fields) (d m : List ℕ) where
   lower : List (ℕ × ℕ)

@@ -1,9 +1,9 @@
 -- Stored records read back as the same fields, and only the layout's records are read (condition 2). Both are proofs/Layouts' laws, for
--- the layout of a place and that of a slot.
+-- the layout of a place (by way of proofs/PlaceLayouts, whose laws the converter's old layout has too) and that of a slot.
 --
 --   read-back      for all fields of their widths and data of 0 to 28 bytes, the record written for ID n is a valid place n, and reading
 --                  it gives the same ID, client, generation, partition, sequence, header, length and data
---   only-records   64 bytes are a valid place n exactly if they are the record written for some fields with ID n
+--   only-records   bytes are a valid place n exactly if they are the record written for some fields with ID n
 --   sizes          the sizes that specs/Sizes names are those of the layouts
 --   only-slots     32 bytes are a valid slot exactly if they are the slot written for some fields (that these are read back: SlotReadBack)
 -- Assumes nothing.
@@ -26,7 +26,7 @@ use Rattle.storage.specs.Places.{placeNumbers, recordBytes, idOf, sizeOf
 use Rattle.storage.specs.Slots.{slotBytes, slotOf, validSlot, FittingSlot}
 use Rattle.storage.proofs.Layouts as layout
 use Rattle.storage.proofs.SlotReadBack.{slot-valid}
-use Rattle.storage.proofs.PlaceCases.{valid-tests}
+use Rattle.storage.proofs.PlaceLayouts as place
 
 -- ================ the statements
 
@@ -70,61 +70,29 @@ Sizes = (slotSize ≡ layoutSize slotLayout) × (slotsSize ≡ 2 * slotSize) × 
 pub sizes : Sizes
 sizes = (refl, refl, refl)
 
-module _ (f : Fields) (d : List ℕ) (w : Fitting f) (short : length d ≤ dataLimit) where
-  fits : Fits (placeNumbers f (length d))
-  fits =
-      (w .id, (w .client, (w .generation, (w .partition, (w .sequence, (w .header, (lt-of-le-of-lt short (lit< tt), tt)))))))
-
-  -- the i-th number is read back
-  number : (i : ℕ) → getD (numbersAt (placeLayout .widths) 0 (recordBytes f d)) i (0, 0) .1 ≡ getD (placeNumbers f (length d)) i (0, 0) .1
-  unfolding recordBytes
-  number i = ap (λ (l : List (ℕ × ℕ)). getD l i (0, 0) .1) (layout.numbers-again placeLayout (placeNumbers f (length d)) d refl short fits)
-
-  size : sizeOf (recordBytes f d) ≡ length d
-  unfolding sizeOf
-  size = number 6
-
-  same-id : idOf (recordBytes f d) ≡ f .id
-  unfolding idOf
-  same-id = number 0
-
-  fields : fieldsIn (recordBytes f d) ≡ f
-  unfolding fieldsIn
-  fields =
-      λ i. record {
-        id = same-id i;
-        client = number 1 i;
-        generation = number 2 i;
-        partition = number 3 i;
-        sequence = number 4 i;
-        header = number 5 i;
-      }
-
-  content : dataOf (recordBytes f d) ≡ d
-  unfolding dataOf recordBytes
-  content = rw size (layout.data-again placeLayout (placeNumbers f (length d)) d refl short)
-
-  valid : Bytes d → validPlace (f .id) (recordBytes f d) ≡ true
-  unfolding validPlace recordBytes
-  valid b = rw (eq-eqb (idOf (recordBytes f d)) (f .id) same-id, size) (layout.record-formed placeLayout (placeNumbers f (length d)) d refl short b)
+-- the numbers have their widths
+fits : (f : Fields) → Fitting f → Fits (placeNumbers f 0)
+fits f w = (w .id, (w .client, (w .generation, (w .partition, (w .sequence, (w .header, (lit< tt, tt)))))))
 
 pub read-back : ReadBack
-read-back f d w h b = record { valid = valid f d w h b; fields = fields f d w h; size = size f d w h; content = content f d w h }
+unfolding recordBytes validPlace fieldsIn sizeOf dataOf
+read-back f d w h b =
+    let r = place.read-back 8 4 f d (fits f w) h b in
+    record { valid = r .valid; fields = r .fields; size = r .size; content = r .content }
 
 written : (n : ℕ) (s : List ℕ) → Bytes s → validPlace n s ≡ true → Written n s
-unfolding recordBytes fieldsIn idOf sizeOf dataOf
+unfolding recordBytes validPlace
 written n s b e =
-    let v = valid-tests n s e in
-    let r = layout.rewritten placeLayout (sizeOf s) s b (v .form) in
+    let r = place.only-records 8 4 n s b .0 e in
     let w = r .fitting in
     record {
-      fields = fieldsIn s;
-      content = dataOf s;
+      fields = r .fields;
+      content = r .content;
       fitting = record { id = w .0; client = w .1 .0; generation = w .1 .1 .0; partition = w .1 .1 .1 .0; sequence = w .1 .1 .1 .1 .0; header = w .1 .1 .1 .1 .1 .0 };
-      short = omega (arith, r .size, v .short);
+      short = r .short;
       bytes = r .bytes;
-      id = v .id;
-      same = r .same ∙ ap (λ (k : ℕ). recordOf placeLayout (placeNumbers (fieldsIn s) k) (dataOf s)) (sym (r .size));
+      id = r .id;
+      same = r .same;
     }
 
 pub only-records : OnlyRecords

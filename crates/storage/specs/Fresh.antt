@@ -10,6 +10,6 @@ use Rattle.storage.specs.Slots.{slotBytes}
 abbrev pub blankSlot : Slot
 blankSlot = record { promise = 0; low = 0; local = 0 }
 
--- a wiped place is 64 zeros, so N of them are 64 × N zeros
+-- a wiped place is all zeros, so N of them are N times as many
 unfoldable pub freshMedium : ℕ → List ℕ
 freshMedium N = slotBytes blankSlot ++ (slotBytes blankSlot ++ replicate (placeSize * N) 0)

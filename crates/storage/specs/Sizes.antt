@@ -1,5 +1,6 @@
--- The layouts, sizes and limits of a medium, each named once. Document 01, "Medium: 64 + 64 × N bytes". That the sizes are the layouts'
--- is the law `sizes` of proofs/Records.
+-- The layouts, sizes and limits of a medium, each named once. Document 01, "Medium"; document 02, No. 7: "The stored number becomes 64 bits and a
+-- place 72 bytes, with four zero bytes before the check"; "Lent lengths, given bytes and layouts follow the new size from then on". That the sizes
+-- are the layouts' is the law `sizes` of proofs/Records. The layout before No. 7 stands where it is read, in the crate converter (specs/Old).
 -- Assumes nothing.
 use mathlib.Core.List.{[], _∷_}
 use Prim.Native.Nat.{ℕ, _+_, _-_, _*_}
@@ -17,14 +18,14 @@ slotSize = 32
 abbrev pub dataLimit : ℕ
 dataLimit = 28
 
--- "ID (8), client, generation, partition, sequence (4 each), header (4), data length 0 to 28 (4), data (28, zeros after the length),
--- CRC-32 of the 60 bytes before (4)"
+-- document 01, "ID (8), client, generation, partition, sequence (4 each), header (4), data length 0 to 28 (4), data (28, zeros after the
+-- length), CRC-32 of the 60 bytes before (4)", with document 02's sequence of 8 and its four zeros before the check, which is of 68 bytes now
 abbrev pub placeLayout : Layout
-placeLayout = record { widths = 8 ∷ 4 ∷ 4 ∷ 4 ∷ 4 ∷ 4 ∷ 4 ∷ []; limit = dataLimit; zeros = 0 }
+placeLayout = record { widths = 8 ∷ 4 ∷ 4 ∷ 4 ∷ 8 ∷ 4 ∷ 4 ∷ []; limit = dataLimit; zeros = 4 }
 
--- "64 × N bytes"
+-- "a place 72 bytes"
 abbrev pub placeSize : ℕ
-placeSize = 64
+placeSize = 72
 
 -- the two slots before the places
 abbrev pub slotsSize : ℕ
@@ -34,7 +35,7 @@ slotsSize = 64
 abbrev pub placesLimit : ℕ
 placesLimit = 1000
 
--- "64 + 64 × N bytes"
+-- "64 + 64 × N bytes", with places of 72
 abbrev pub mediumSize : ℕ → ℕ
 mediumSize N = slotsSize + placeSize * N
 

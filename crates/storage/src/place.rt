@@ -30,7 +30,7 @@ pub struct Fields {
     pub client: u32,
     pub generation: u32,
     pub partition: u32,
-    pub sequence: u32,
+    pub sequence: u64,
     pub header: u32,
 }
 
@@ -79,7 +79,7 @@ fn upper(out: &mut [u8], f: Fields, n: usize)
     requires { ⌜ length (now out) ≡ placeSize ⌝ }
     ensures { λ _. ⌜ now (out .exit) ≡ writeAt (offsetOf (placeLayout .widths) 4) (fieldsOf (drop 4 (placeNumbers f n))) (now (out .entry)) ⌝ }
 {
-    octets::put_be(out, SEQUENCE_AT, WORD, f.sequence as u64);
+    octets::put_be(out, SEQUENCE_AT, LONG, f.sequence);
     octets::put_be(out, HEADER_AT, WORD, f.header as u64);
     octets::put_be(out, LENGTH_AT, WORD, n as u64);
 }
@@ -123,12 +123,13 @@ pub fn decode(s: &[u8]) -> Fields
     ensures { λ r. ⌜ r ≡ fieldsIn (now (s .entry)) ⌝ }
 {
     let id = octets::get_be(&s[ID_AT..CLIENT_AT]);
+    let sequence = octets::get_be(&s[SEQUENCE_AT..HEADER_AT]);
     Fields {
         id: id,
         client: number(s, CLIENT_AT),
         generation: number(s, GENERATION_AT),
         partition: number(s, PARTITION_AT),
-        sequence: number(s, SEQUENCE_AT),
+        sequence: sequence,
         header: number(s, HEADER_AT),
     }
 }

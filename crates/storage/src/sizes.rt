@@ -23,7 +23,7 @@ pub const SLOT_CHECKED: usize = ZEROS_AT + WORD;
 pub const SLOT: usize = SLOT_CHECKED + CHECK;
 // The two slots before the places.
 pub const SLOTS: usize = 2 * SLOT;
-// A place's numbers, each behind the one before, its data and its check.
+// A place's numbers, each behind the one before, its data, its zeros and its check.
 pub const ID_AT: usize = 0;
 
 pub const CLIENT_AT: usize = ID_AT + LONG;
@@ -34,7 +34,7 @@ pub const PARTITION_AT: usize = GENERATION_AT + WORD;
 
 pub const SEQUENCE_AT: usize = PARTITION_AT + WORD;
 
-pub const HEADER_AT: usize = SEQUENCE_AT + WORD;
+pub const HEADER_AT: usize = SEQUENCE_AT + LONG;
 
 pub const LENGTH_AT: usize = HEADER_AT + WORD;
 
@@ -42,7 +42,9 @@ pub const DATA_AT: usize = LENGTH_AT + WORD;
 
 pub const DATA_LIMIT: usize = 28;
 
-pub const PLACE_CHECKED: usize = DATA_AT + DATA_LIMIT;
+pub const PLACE_ZEROS: usize = 4;
+
+pub const PLACE_CHECKED: usize = DATA_AT + DATA_LIMIT + PLACE_ZEROS;
 
 pub const PLACE: usize = PLACE_CHECKED + CHECK;
 // The most places of a medium.

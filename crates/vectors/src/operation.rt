@@ -68,7 +68,7 @@ fn target(n: u64) -> Target {
     Target::Mark(n - 1)
 }
 
-// append: 64 BYTES.
+// append: BYTES of a place.
 fn append(line: &[u8], mark: u64, src: &mut [u8]) -> Asked {
     if !hex::read(line::field(line, 2), src) {
         return Asked::Unfit;

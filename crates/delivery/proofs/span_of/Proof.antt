@@ -10,7 +10,7 @@ use Rattle.delivery.proofs.span_of.Tie as tie
 
 span-fits : (N i : ℕ) → N ≤ placesLimit → i < 7 → (i * mediumSize N < 2 ^ 64) × (i * mediumSize N + mediumSize N < 2 ^ 64)
 span-fits N i n l =
-    let p : i * mediumSize N ≤ 7 * 64064 = mul-le-mul {n₂ = 7} {m₂ = 64064} (omega arith) (omega arith) in
+    let p : i * mediumSize N ≤ 7 * 72064 = mul-le-mul {n₂ = 7} {m₂ = 72064} (omega arith) (omega arith) in
     (omega arith, omega arith)
 
 medium-size-requires : tie.Need-medium-size-requires

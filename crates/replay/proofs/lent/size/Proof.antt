@@ -18,8 +18,8 @@ add-result c = search needs
 mul-result-2 : tie.Need-mul-result-2
 mul-result-2 c =
     let h = c .args .h in
-    let s : mediumSize (h .places) ≤ 960 = omega arith in
-    let w : h .replicas * mediumSize (h .places) ≤ h .replicas * 960 = mul-le-mul-left (h .replicas) s in
+    let s : mediumSize (h .places) ≤ 1072 = omega arith in
+    let w : h .replicas * mediumSize (h .places) ≤ h .replicas * 1072 = mul-le-mul-left (h .replicas) s in
     omega arith
 
 returns : tie.Need-returns

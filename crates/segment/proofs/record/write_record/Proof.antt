@@ -9,7 +9,7 @@ use Rattle.octets.proofs.Bytes.{bytes-known}
 use Rattle.octets.proofs.Laws.{between-part, length-part}
 use Rattle.crc32.specs.Crc32.{crcOf}
 use Rattle.storage.specs.Places.{sizeOf, dataOf}
-use Rattle.segment.specs.Records.{recordSize}
+use Rattle.segment.specs.Records.{recordSize, numbersSize, contentOffset}
 use Rattle.segment.proofs.Written.{record-written}
 use borrow.Author.Needs.{needs}
 use Rattle.segment.proofs.record.write_record.Statement.{statement}
@@ -47,7 +47,7 @@ part-put-end c = search needs
 
 put-requires : tie.Need-put-requires
 unfolding recordSize
-put-requires c κs = omega (arith, length-part 0 32 (c .before .before .before .before .before .before .before .args .p .now) (omega (arith, c .before .before .before .before .before .before .before .pre)), c .before .before .before .before .before .before .before .pre)
+put-requires c κs = omega (arith, length-part 0 numbersSize (c .before .before .before .before .before .before .before .args .p .now) (omega (arith, c .before .before .before .before .before .before .before .pre)), c .before .before .before .before .before .before .before .pre)
 
 cast-put-be : tie.Need-cast-put-be
 cast-put-be c = search needs
@@ -67,7 +67,7 @@ part-put-end-2 c = search needs
 
 put-requires-2 : tie.Need-put-requires-2
 unfolding recordSize
-put-requires-2 c κs = omega (arith, length-part 32 (c .before .before .before .before .before .before .before .before .before .before .before .before .before .data-length .result) (c .before .before .before .before .before .before .before .before .before .before .before .before .before .before .before .before .args .p .now) (omega (arith, c .before .before .before .before .before .before .before .before .before .before .before .before .before .before .before .before .pre, c .before .before .before .before .before .before .before .before .before .before .before .before .before .data-length .ensures)), c .before .before .before .before .before .before .before .before .before .before .before .before .before .before .before .before .pre, c .before .before .before .before .before .before .before .before .before .before .before .before .before .data-length .ensures)
+put-requires-2 c κs = omega (arith, length-part numbersSize (c .before .before .before .before .before .before .before .before .before .before .before .before .before .data-length .result) (c .before .before .before .before .before .before .before .before .before .before .before .before .before .before .before .before .args .p .now) (omega (arith, c .before .before .before .before .before .before .before .before .before .before .before .before .before .before .before .before .pre, c .before .before .before .before .before .before .before .before .before .before .before .before .before .data-length .ensures)), c .before .before .before .before .before .before .before .before .before .before .before .before .before .before .before .before .pre, c .before .before .before .before .before .before .before .before .before .before .before .before .before .data-length .ensures)
 
 add-seal : tie.Need-add-seal
 add-seal c = search needs
@@ -80,19 +80,19 @@ same-length : tie.Need-same-length
 same-length c = search needs
 
 returns : tie.Need-returns
-unfolding dataOf
+unfolding dataOf sizeOf
 returns c =
     let a = c .before .before .before .before .before .before .before .before .before .before .before .before .before .before .before .before .before .before .before .before .before .before .before .args in
     let p = a .p .now in
     let q = c .before .before .before .before .before .before .before .before .before .before .before .before .before .before .before .before .before .before .before .before .before .before .before .pre in
     let r = c .before .before .before .before .before .before .before .before .before .before .before .before .before .before .before .before .before .before .before .before .data-length .result in
     let size : r ≡ sizeOf p = c .before .before .before .before .before .before .before .before .before .before .before .before .before .before .before .before .before .before .before .before .data-length .ensures in
-    let same : take (32 + r - 32) (drop 32 p) ≡ dataOf p = between-part 32 r p ∙ ap (λ (k : ℕ). part 32 k p) size in
-    let end : 4 + (32 + r) ≡ 36 + sizeOf p = omega (arith, size) in
+    let same : take (numbersSize + r - numbersSize) (drop numbersSize p) ≡ dataOf p = between-part numbersSize r p ∙ ap (λ (k : ℕ). part numbersSize k p) size in
+    let end : 4 + (numbersSize + r) ≡ contentOffset + sizeOf p = omega (arith, size) in
     record-written p (a .out .now) _ _ _ _ (bytes-known p (λ i. c .before .before .before .before .before .before .before .before .before .before .before .before .before .before .before .before .before .before .before .before .before .shared-slice-known .given i .fits)) (q .1 .0) (q .1 .1 .0) (q .1 .1 .1)
     (c .before .before .before .before .before .before .before .before .before .before .before .before .before .before .before .put .ensures)
-    (c .before .before .before .before .before .before .before .before .before .before .before .put-be .ensures ∙ ap (λ (v : ℕ). writeAt 32 (beBytes 4 v) (c .before .before .before .before .before .before .before .before .before .before .before .before .before .before .before .put .last .0)) (c .before .before .before .before .before .before .before .before .before .before .before .before .before .before .before .before .before .before .crc .ensures ∙ ap crcOf same))
-    (c .before .before .before .before .before .before .put2 .ensures ∙ ap (λ (d : List ℕ). writeAt 36 d (c .before .before .before .before .before .before .before .before .before .before .before .put-be .last .0)) same)
+    (c .before .before .before .before .before .before .before .before .before .before .before .put-be .ensures ∙ ap (λ (v : ℕ). writeAt numbersSize (beBytes 4 v) (c .before .before .before .before .before .before .before .before .before .before .before .before .before .before .before .put .last .0)) (c .before .before .before .before .before .before .before .before .before .before .before .before .before .before .before .before .before .before .crc .ensures ∙ ap crcOf same))
+    (c .before .before .before .before .before .before .put2 .ensures ∙ ap (λ (d : List ℕ). writeAt contentOffset d (c .before .before .before .before .before .before .before .before .before .before .before .put-be .last .0)) same)
     (c .before .before .seal .ensures ∙ ap (λ (k : ℕ). writeAt k (beBytes 4 (crcOf (take k (c .before .before .before .before .before .before .put2 .last .0)))) (c .before .before .before .before .before .before .put2 .last .0)) end)
 
 pub write-record-spec : {M : Type 1} → statement M

@@ -8,7 +8,7 @@ use Rattle.octets.proofs.Laws.{length-between}
 use Rattle.storage.specs.Sizes.{slotsSize, placeSize}
 use Rattle.storage.specs.Places.{sizeOf}
 use Rattle.segment.specs.Header.{headerSize}
-use Rattle.segment.specs.Records.{recordSize, placeIn}
+use Rattle.segment.specs.Records.{recordSize, placeIn, leastRecord}
 use Rattle.segment_import.specs.Import.{recordsUnfit, filled}
 use Rattle.segment.proofs.Writing.{size-is}
 use Rattle.segment_import.proofs.ReadingRecords.{to-end}
@@ -111,7 +111,7 @@ loop-again c =
     let w = this-record (l .n) (a .count) (l .at) (a .file .now) (c .before .before .before .before .before .before .before .loop-test .taken) (l .inv .4) in
     let e = to-end (l .at) (a .file .now) in
     let s = drop (l .at) (a .file .now) in
-    let r : 40 + c .before .before .before .before .before .length-field .result ≡ recordSize s = omega (arith, c .before .before .before .before .before .length-field .ensures ∙ ap sizeOf e, size-is (drop (l .at) (a .file .now))) in
+    let r : leastRecord + c .before .before .before .before .before .length-field .result ≡ recordSize s = omega (arith, c .before .before .before .before .before .length-field .ensures ∙ ap sizeOf e, size-is (drop (l .at) (a .file .now))) in
     let ys : c .before .before .write-place .last .1 .0 ≡ placeIn s = c .before .before .write-place .ensures ∙ ap placeIn e in (
       search needs,
       omega (arith, l .inv .1),

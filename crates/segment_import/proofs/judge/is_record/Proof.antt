@@ -7,7 +7,7 @@ use Rattle.octets.specs.Octets.{part}
 use Rattle.octets.proofs.Laws.{between-part}
 use Rattle.crc32.specs.Crc32.{crcOf, checked}
 use Rattle.storage.specs.Places.{idOf, sizeOf}
-use Rattle.segment.specs.Records.{recordSize, checkIn, contentIn}
+use Rattle.segment.specs.Records.{recordSize, checkIn, contentIn, contentOffset, leastRecord}
 use Rattle.segment.proofs.Writing.{size-is}
 use Rattle.segment_import.proofs.ReadingRecords.{cut-short, misnumbered, spoilt-data, by-check}
 use borrow.Author.Needs.{needs}
@@ -83,7 +83,7 @@ returns-3 c =
     let s = a .s .now in
     let k = c .before .before .before .before .before .before .before .before .before .length-field .result in
     let size : k ≡ sizeOf s = c .before .before .before .before .before .before .before .before .before .length-field .ensures in
-    let sum : c .before .before .before .crc .result ≡ crcOf (contentIn s) = c .before .before .before .crc .ensures ∙ ap crcOf (between-part 36 k s ∙ ap (λ (j : ℕ). part 36 j s) size) in
+    let sum : c .before .before .before .crc .result ≡ crcOf (contentIn s) = c .before .before .before .crc .ensures ∙ ap crcOf (between-part contentOffset k s ∙ ap (λ (j : ℕ). part contentOffset j s) size) in
     spoilt-data (a .n) s (p .1 .1) (sym (c .before .before .before .before .before .before .get-be .ensures .0) ∙ c .before .before .before .before .before .if2 .left) (λ e. c .if3 .taken (sum ∙ e ∙ sym (c .before .get-be2 .ensures .0)))
 
 sub-check : tie.Need-sub-check
@@ -106,10 +106,10 @@ returns-4 c =
     let s = a .s .now in
     let k = c .before .before .before .before .before .before .before .before .before .before .before .length-field .result in
     let size : k ≡ sizeOf s = c .before .before .before .before .before .before .before .before .before .before .before .length-field .ensures in
-    let sum : c .before .before .before .before .before .crc .result ≡ crcOf (contentIn s) = c .before .before .before .before .before .crc .ensures ∙ ap crcOf (between-part 36 k s ∙ ap (λ (j : ℕ). part 36 j s) size) in
-    let whole : 40 + k - 0 ≡ recordSize s = omega (arith, size, size-is s) in
+    let sum : c .before .before .before .before .before .crc .result ≡ crcOf (contentIn s) = c .before .before .before .before .before .crc .ensures ∙ ap crcOf (between-part contentOffset k s ∙ ap (λ (j : ℕ). part contentOffset j s) size) in
+    let whole : leastRecord + k - 0 ≡ recordSize s = omega (arith, size, size-is s) in
     c .check .ensures
-    ∙ ap₂ (λ (i j : ℕ). checked (36 + i) (take j s)) size whole
+    ∙ ap₂ (λ (i j : ℕ). checked (contentOffset + i) (take j s)) size whole
     ∙ by-check (a .n) s (p .1 .1) (omega (arith, size, size-is s, c .before .before .before .before .before .before .before .before .before .before .if1 .left)) (sym (c .before .before .before .before .before .before .before .before .get-be .ensures .0) ∙ c .before .before .before .before .before .before .before .if2 .left) (sym sum ∙ c .before .before .if3 .left ∙ c .before .before .before .get-be2 .ensures .0)
 
 pub is-record-spec : {M : Type 1} → statement M

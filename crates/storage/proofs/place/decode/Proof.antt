@@ -1,4 +1,4 @@
--- `place::decode`: the ID and five numbers, each read at its offset, are the definition's fields (`cc`).
+-- `place::decode`: the ID, the sequence and four numbers, each read at its offset, are the definition's fields (`cc`).
 use Rattle.storage.specs.Places.{fieldsIn, idOf}
 use borrow.Author.Needs.{needs}
 use Rattle.storage.proofs.place.decode.Statement.{statement}
@@ -16,6 +16,18 @@ part-get-be-end c = search needs
 get-be-requires : tie.Need-get-be-requires
 get-be-requires c κs = search needs
 
+sub-get-be-2 : tie.Need-sub-get-be-2
+sub-get-be-2 c = search needs
+
+part-get-be-start-2 : tie.Need-part-get-be-start-2
+part-get-be-start-2 c = search needs
+
+part-get-be-end-2 : tie.Need-part-get-be-end-2
+part-get-be-end-2 c = search needs
+
+get-be-requires-2 : tie.Need-get-be-requires-2
+get-be-requires-2 c κs = search needs
+
 number-requires : tie.Need-number-requires
 number-requires c κs = search needs
 
@@ -27,9 +39,6 @@ number-requires-3 c κs = search needs
 
 number-requires-4 : tie.Need-number-requires-4
 number-requires-4 c κs = search needs
-
-number-requires-5 : tie.Need-number-requires-5
-number-requires-5 c κs = search needs
 
 returns : tie.Need-returns
 unfolding fieldsIn idOf
@@ -43,9 +52,12 @@ decode-spec =
     part-get-be-start
     part-get-be-end
     get-be-requires
+    sub-get-be-2
+    part-get-be-start-2
+    part-get-be-end-2
+    get-be-requires-2
     number-requires
     number-requires-2
     number-requires-3
     number-requires-4
-    number-requires-5
     returns)

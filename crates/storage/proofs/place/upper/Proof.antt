@@ -8,14 +8,11 @@ use borrow.Author.Needs.{needs}
 use Rattle.storage.proofs.place.upper.Statement.{statement}
 use Rattle.storage.proofs.place.upper.Tie as tie
 
-cast-put-be : tie.Need-cast-put-be
-cast-put-be c = search needs
-
 put-be-requires : tie.Need-put-be-requires
 put-be-requires c κs = search needs
 
-cast-put-be-2 : tie.Need-cast-put-be-2
-cast-put-be-2 c = search needs
+cast-put-be : tie.Need-cast-put-be
+cast-put-be c = search needs
 
 put-be-requires-2 : tie.Need-put-be-requires-2
 put-be-requires-2 c κs = search needs
@@ -28,20 +25,19 @@ same-length c = search needs
 
 returns : tie.Need-returns
 returns c =
-    let f = c .before .before .before .before .before .before .before .before .before .before .before .before .before .before .before .args .f in
-    let m = c .before .before .before .before .before .before .before .before .before .before .before .before .before .before .before .args .out .now in
-    let h : 20 ≤ length m = omega (arith, c .before .before .before .before .before .before .before .before .before .before .before .before .before .before .before .pre) in
-    let e₁ = first-field 20 4 (f .sequence) m _ (c .before .before .before .before .before .before .before .before .before .before .before .put-be .ensures) in
-    let e₂ = next-field ((4, f .sequence) ∷ []) 20 4 (f .header) m _ _ h e₁ (c .before .before .before .before .before .before .put-be2 .ensures) in
-    next-field ((4, f .sequence) ∷ (4, f .header) ∷ []) 20 4 (c .before .before .before .before .before .before .before .before .before .before .before .before .before .before .before .args .n) m _ _ h e₂ (c .before .before .put-be3 .ensures)
+    let f = c .before .before .before .before .before .before .before .before .before .before .before .before .before .before .args .f in
+    let m = c .before .before .before .before .before .before .before .before .before .before .before .before .before .before .args .out .now in
+    let h : 20 ≤ length m = omega (arith, c .before .before .before .before .before .before .before .before .before .before .before .before .before .before .pre) in
+    let e₁ = first-field 20 8 (f .sequence) m _ (c .before .before .before .before .before .before .before .before .before .before .before .put-be .ensures) in
+    let e₂ = next-field ((8, f .sequence) ∷ []) 20 4 (f .header) m _ _ h e₁ (c .before .before .before .before .before .before .put-be2 .ensures) in
+    next-field ((8, f .sequence) ∷ (4, f .header) ∷ []) 20 4 (c .before .before .before .before .before .before .before .before .before .before .before .before .before .before .args .n) m _ _ h e₂ (c .before .before .put-be3 .ensures)
 
 pub upper-spec : {M : Type 1} → statement M
 upper-spec =
     tie.close
     (tie.spec
-    cast-put-be
     put-be-requires
-    cast-put-be-2
+    cast-put-be
     put-be-requires-2
     put-be-requires-3
     same-length

@@ -12,22 +12,22 @@ use Rattle.octets.proofs.Laws.{take-drop}
 use Rattle.lanes.specs.Lanes.{lanes}
 use Rattle.storage.specs.Sizes.{slotsSize, placeSize}
 use Rattle.storage.specs.Places.{validPlace}
-use Rattle.storage.specs.Log.{placeAt, placesFrom, run, markOf}
+use Rattle.storage.specs.Log.{placeAt, placesFrom, run, runBy, markOf}
 use Rattle.medium.specs.Rows.{rows, validRows}
 use Rattle.storage.proofs.Scan.{rest, run-le, mark-known}
 
 -- ---- place by place
 
 row-next : (k n : ℕ) (s : List ℕ) → validPlace (n + 1) (take placeSize s) ≡ true → validRows (suc k) n s ≡ suc (validRows k (n + 1) (drop placeSize s))
-unfolding validRows rows run
+unfolding validRows rows runBy
 row-next k n s v = rw v refl
 
 row-stop : (k n : ℕ) (s : List ℕ) → validPlace (n + 1) (take placeSize s) ≡ false → validRows (suc k) n s ≡ 0
-unfolding validRows rows run
+unfolding validRows rows runBy
 row-stop k n s v = rw v refl
 
 row-none : (n : ℕ) (s : List ℕ) → validRows 0 n s ≡ 0
-unfolding validRows rows run
+unfolding validRows rows runBy
 row-none n s = refl
 
 pub turn-start : (N n : ℕ) (s : List ℕ) → validRows N n s ≡ 0 + validRows (N - 0) (n + 0) (drop 0 s)

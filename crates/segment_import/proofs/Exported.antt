@@ -19,7 +19,8 @@ use Rattle.segment.specs.Pair.{Files, offsetSize, recordsOf, offsetsFrom, pairO
 use Rattle.segment.proofs.Headers.{length-header}
 use Rattle.segment.proofs.Writing.{length-offsets}
 use Rattle.segment_import.specs.Import.{offsetsIn}
-use Rattle.segment_import.proofs.Places.{placesIn, AllValid, AllBytes, records-fit, places-back, offsets-agree}
+use Rattle.storage.proofs.Filled.{AllValid}
+use Rattle.segment_import.proofs.Places.{placesIn, AllBytes, records-fit, places-back, offsets-agree}
 use Rattle.segment_import.proofs.Medium.{valid-places}
 use Rattle.segment_import.proofs.Judged.{offsets-of}
 use Rattle.segment_import.proofs.Replies.{differs, unfits}

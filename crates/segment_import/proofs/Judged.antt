@@ -18,7 +18,8 @@ use Rattle.segment.specs.Header.{headerSize, headerBytes}
 use Rattle.segment.specs.Pair.{Files, indexSize}
 use Rattle.segment_import.specs.Import.{offsetsIn, outside, sameBytes, otherHeader, unready}
 use Rattle.base.proofs.Tests.{either, neither}
-use Rattle.segment_import.proofs.Wiped.{all-wiped, some-written}
+use Rattle.storage.proofs.Filled.{all-wiped}
+use Rattle.segment_import.proofs.Wiped.{some-written}
 
 -- ================ tests and what they say
 

@@ -18,6 +18,7 @@ use Rattle.octets.proofs.Bytes.{bytes-take, bytes-drop}
 use Rattle.storage.specs.Sizes.{placeSize}
 use Rattle.storage.specs.Places.{validPlace}
 use Rattle.storage.proofs.PlaceCases.{valid-tests}
+use Rattle.storage.proofs.Filled.{AllValid, AllLong}
 use Rattle.segment.specs.Records.{recordSize, placeIn, sized, isRecord, longestRecord}
 use Rattle.segment.specs.Pair.{offsetSize, recordsOf, offsetsFrom}
 use Rattle.segment.proofs.Writing.{size-is}
@@ -30,22 +31,9 @@ unfoldable pub placesIn : ℕ → List ℕ → List (List ℕ)
 placesIn zero s = []
 placesIn (suc k) s = placeIn s ∷ placesIn k (drop (recordSize s) s)
 
--- places are valid, the first of them as place n
-abbrev pub AllValid : ℕ → List (List ℕ) → Type 0
-AllValid n [] = Unit {0}
-AllValid n (p ∷ ps) = (validPlace n p ≡ true) × AllValid (n + 1) ps
-
 abbrev pub AllBytes : List (List ℕ) → Type 0
 AllBytes [] = Unit {0}
 AllBytes (p ∷ ps) = Bytes p × AllBytes ps
-
-abbrev pub AllLong : List (List ℕ) → Type 0
-AllLong [] = Unit {0}
-AllLong (p ∷ ps) = (length p ≡ placeSize) × AllLong ps
-
-pub valid-long : (n : ℕ) (ps : List (List ℕ)) → AllValid n ps → AllLong ps
-valid-long n [] v = tt
-valid-long n (p ∷ ps) v = (valid-tests n p (v .0) .size, valid-long (n + 1) ps (v .1))
 
 -- ================ written, then read
 

@@ -27,7 +27,8 @@ use Rattle.segment.specs.Header.{headerSize, keySize, headerBytes}
 use Rattle.segment.specs.Records.{recordSize, placeIn, sized, isRecord}
 use Rattle.segment.specs.Pair.{Files, offsetSize, recordsOf, offsetsFrom, pairOf, indexSize}
 use Rattle.segment_import.specs.Import.{ok, no, outside, unready, offsetsDiffer, recordsUnfit, offsetsIn, verdict, filled, imported}
-use Rattle.segment_import.proofs.Places.{placesIn, AllValid, nothing, valid-long, first-fits, others-fit}
+use Rattle.storage.proofs.Filled.{AllValid, valid-long}
+use Rattle.segment_import.proofs.Places.{placesIn, nothing, first-fits, others-fit}
 use Rattle.segment_import.proofs.Places.{places-long, places-valid, records-again, offsets-again}
 use Rattle.segment_import.proofs.Wiped.{all-zero}
 use Rattle.segment_import.proofs.Medium.{Filled, filled-is}

@@ -1,4 +1,5 @@
--- A medium whose places are all wiped: the bytes behind its slots are all zero, and where they are not, one of its places is not wiped.
+-- Whether the places of a medium are all wiped: where the bytes behind its slots are not all zero, one of its places is not. (That they are wiped where
+-- these are: storage proofs/Filled `all-wiped`.)
 -- Assumes nothing.
 use mathlib.Core.Path.{_≡_, refl, sym, ap, _∙_}
 use mathlib.Core.Bool.{Bool, true, false, _&&_, and-eq-true-iff, and-assoc, false≢true}
@@ -14,32 +15,7 @@ use Rattle.octets.proofs.Reading.{zeros-are, zeros-zero}
 use Rattle.storage.specs.Sizes.{slotsSize, placeSize, mediumSize, placeOffset}
 use Rattle.storage.specs.Places.{wiped}
 use Rattle.storage.specs.Log.{placeAt}
-
-zero-append : (s t : List ℕ) → allZero (s ++ t) ≡ (allZero s && allZero t)
-unfolding allZero
-zero-append [] t = refl
-zero-append (b ∷ s) t = ap (λ (r : Bool). eqb b 0 && r) (zero-append s t) ∙ sym (and-assoc (eqb b 0) (allZero s) (allZero t))
-
--- both pieces of a list of zeros
-zero-pieces : (i : ℕ) (s : List ℕ) → allZero s ≡ (allZero (take i s) && allZero (drop i s))
-zero-pieces i s = ap allZero (sym (take-append-drop i s)) ∙ zero-append (take i s) (drop i s)
-
-zero-part : (o k : ℕ) (s : List ℕ) → allZero s ≡ true → allZero (part o k s) ≡ true
-zero-part o k s h =
-    let d = and-eq-true-iff (allZero (take o s)) (allZero (drop o s)) .0 (sym (zero-pieces o s) ∙ h) in
-    and-eq-true-iff (allZero (take k (drop o s))) (allZero (drop k (drop o s))) .0 (sym (zero-pieces k (drop o s)) ∙ d .1) .0
-
--- place n among the bytes behind the slots
-place-behind : (n : ℕ) (m : List ℕ) → placeAt n m ≡ part (placeSize * (n - 1)) placeSize (drop slotsSize m)
-unfolding placeAt
-place-behind n m = ap (take placeSize) (sym (drop-drop (placeSize * (n - 1)) slotsSize m))
-
-pub all-wiped : (N : ℕ) (m : List ℕ) → length m ≡ mediumSize N → allZero (drop slotsSize m) ≡ true
-    → (n : ℕ) → 1 ≤ n → n ≤ N → placeAt n m ≡ wiped
-unfolding placeAt wiped
-all-wiped N m l h n lo hi =
-    let z : allZero (placeAt n m) ≡ true = ap allZero (place-behind n m) ∙ zero-part (placeSize * (n - 1)) placeSize (drop slotsSize m) h in
-    zeros-are (placeAt n m) z ∙ ap (λ (i : ℕ). replicate i 0) (length-part (placeOffset n) placeSize m (omega arith))
+use Rattle.storage.proofs.Filled.{zero-pieces, place-behind}
 
 -- N blocks that are not all zero: one of them is not
 not-zero : (N : ℕ) (s : List ℕ) → length s ≡ placeSize * N → allZero s ≡ false → (i : ℕ) × (i < N) × (allZero (part (placeSize * i) placeSize s) ≡ false)

@@ -17,3 +17,4 @@ pub mod Truncating
 pub mod Promises
 pub mod Fresh
 pub mod Marks
+pub mod Filled

@@ -7,12 +7,12 @@ use Prim.Native.Nat.{ℕ, zero, suc, _+_, _-_, _≤_, _<_}
 use native.Mathlib.Omega.{arith}
 use lib.ListN.{length, getD}
 use Rattle.storage.specs.Places.{validPlace}
-use Rattle.storage.specs.Log.{placeAt, placesFrom, run, logOf, markOf}
+use Rattle.storage.specs.Log.{placeAt, placesFrom, run, runBy, logOf, markOf}
 use Rattle.storage.proofs.Scan.{mark-le}
 use Rattle.storage.proofs.Blocks.{getD-places}
 
 run-at : (n i : ℕ) (ps : List (List ℕ)) → i < length (run n ps) → getD (run n ps) i [] ≡ getD ps i []
-unfolding run
+unfolding runBy
 run-at n i [] h = absurd (omega arith)
 run-at n i (p ∷ ps) h = go (validPlace n p) i h (λ j l. run-at (n + 1) j ps l)
   where

@@ -10,7 +10,7 @@ use native.Mathlib.Decide.{ℕ-discrete}
 use lib.ListN.{length, getD, take, set, length-set, length-append}
 use lib.Seq.{getD-set-same, getD-set-other, length-take-le}
 use Rattle.storage.specs.Places.{validPlace}
-use Rattle.storage.specs.Log.{run}
+use Rattle.storage.specs.Log.{run, runBy}
 
 shift : (n i : ℕ) → n + suc i ≡ n + 1 + i
 shift n i = omega arith
@@ -20,16 +20,16 @@ abbrev pub Clean : ℕ → List (List ℕ) → Type 0
 Clean n ps = (i : ℕ) → length (run n ps) ≤ i → i < length ps → validPlace (n + i) (getD ps i []) ≡ false
 
 run-true : (n : ℕ) (p : List ℕ) (ps : List (List ℕ)) → validPlace n p ≡ true → run n (p ∷ ps) ≡ p ∷ run (n + 1) ps
-unfolding run
+unfolding runBy
 run-true n p ps v = ap (λ (b : Bool). cond b (p ∷ run (n + 1) ps) []) v
 
 run-false : (n : ℕ) (p : List ℕ) (ps : List (List ℕ)) → validPlace n p ≡ false → run n (p ∷ ps) ≡ []
-unfolding run
+unfolding runBy
 run-false n p ps v = ap (λ (b : Bool). cond b (p ∷ run (n + 1) ps) []) v
 
 -- the first place of a run that is not empty is valid
 run-first : (n i : ℕ) (p : List ℕ) (ps : List (List ℕ)) → suc i ≤ length (run n (p ∷ ps)) → (validPlace n p ≡ true) × (i ≤ length (run (n + 1) ps))
-unfolding run
+unfolding runBy
 run-first n i p ps h = go (validPlace n p) h
   where
     go : (b : Bool) → suc i ≤ length (cond b (p ∷ run (n + 1) ps) []) → (b ≡ true) × (i ≤ length (run (n + 1) ps))
@@ -38,7 +38,7 @@ run-first n i p ps h = go (validPlace n p) h
 
 -- a place within the run, or just behind it, that is not valid afterwards ends the run
 pub run-cut : (n i : ℕ) (ps : List (List ℕ)) (b : List ℕ) → i ≤ length (run n ps) → validPlace (n + i) b ≡ false → run n (set ps i b) ≡ take i (run n ps)
-unfolding run
+unfolding runBy
 run-cut n zero [] b h v = refl
 run-cut n (suc i) [] b h v = refl
 run-cut n zero (p ∷ ps) b h v = run-false n b ps (ap (λ (k : ℕ). validPlace k b) (sym (add-zero n)) ∙ v)
@@ -50,7 +50,7 @@ run-cut n (suc i) (p ∷ ps) b h v =
 
 -- where nothing is valid at the front, the run is empty
 pub run-none : (n : ℕ) (ps : List (List ℕ)) → (0 < length ps → validPlace n (getD ps 0 []) ≡ false) → run n ps ≡ []
-unfolding run
+unfolding runBy
 run-none n [] h = refl
 run-none n (p ∷ ps) h = run-false n p ps (h (omega arith))
 

@@ -8,21 +8,24 @@ use native.Mathlib.Omega.{arith}
 use lib.ListN.{length, take, drop}
 use Rattle.storage.specs.Sizes.{slotsSize, placeSize}
 use Rattle.storage.specs.Places.{validPlace}
-use Rattle.storage.specs.Log.{placeAt, placesFrom, run, logOf, markOf}
+use Rattle.storage.specs.Log.{placeAt, placesFrom, run, runBy, logOf, markOf}
 
 pub length-places : (k n : ℕ) (m : List ℕ) → length (placesFrom k n m) ≡ k
 unfolding placesFrom
 length-places zero n m = refl
 length-places (suc k) n m = ap suc (length-places k (n + 1) m)
 
-pub run-le : (n : ℕ) (ps : List (List ℕ)) → length (run n ps) ≤ length ps
-unfolding run
-run-le n [] = zero-le
-run-le n (p ∷ ps) = go (validPlace n p) (run-le (n + 1) ps)
+pub runBy-le : (valid : ℕ → List ℕ → Bool) (n : ℕ) (ps : List (List ℕ)) → length (runBy valid n ps) ≤ length ps
+unfolding runBy
+runBy-le valid n [] = zero-le
+runBy-le valid n (p ∷ ps) = go (valid n p) (runBy-le valid (n + 1) ps)
   where
-    go : (b : Bool) → length (run (n + 1) ps) ≤ length ps → length (cond b (p ∷ run (n + 1) ps) []) ≤ suc (length ps)
+    go : (b : Bool) → length (runBy valid (n + 1) ps) ≤ length ps → length (cond b (p ∷ runBy valid (n + 1) ps) []) ≤ suc (length ps)
     go true h = suc-le-suc h
     go false h = zero-le
+
+pub run-le : (n : ℕ) (ps : List (List ℕ)) → length (run n ps) ≤ length ps
+run-le n ps = runBy-le validPlace n ps
 
 pub mark-le : (N : ℕ) (m : List ℕ) → markOf N m ≤ N
 unfolding markOf logOf
@@ -40,11 +43,11 @@ unfolding markOf logOf rest
 mark-start N m = let e : N ≡ N - 0 = omega arith in ap (λ (k : ℕ). length (run 1 (placesFrom k 1 m))) e ∙ omega arith
 
 pub mark-next : (N n : ℕ) (m : List ℕ) → n < N → validPlace (n + 1) (placeAt (n + 1) m) ≡ true → n + rest N n m ≡ (n + 1) + rest N (n + 1) m
-unfolding rest run placesFrom
+unfolding rest runBy placesFrom
 mark-next N n m h v = rw (more N n h, v) (omega arith)
 
 pub mark-stop : (N n : ℕ) (m : List ℕ) → n < N → validPlace (n + 1) (placeAt (n + 1) m) ≡ false → n + rest N n m ≡ n
-unfolding rest run placesFrom
+unfolding rest runBy placesFrom
 mark-stop N n m h v = rw (more N n h, v) (omega arith)
 
 -- one more place of a log that goes on

@@ -2,7 +2,7 @@
 -- Assumes nothing.
 use mathlib.Core.Path.{_≡_}
 use mathlib.Core.List.{List, [], _∷_}
-use mathlib.Core.Bool.{false, cond}
+use mathlib.Core.Bool.{Bool, false, cond}
 use Prim.Native.Nat.{ℕ, zero, suc, _+_, _≤_, _<_}
 use lib.ListN.{length}
 use Rattle.octets.specs.Octets.{part}
@@ -18,10 +18,13 @@ unfoldable pub placesFrom : ℕ → ℕ → List ℕ → List (List ℕ)
 placesFrom zero n m = []
 placesFrom (suc k) n m = placeAt n m ∷ placesFrom k (n + 1) m
 
--- the run of valid places at the front of places from place n on
-unfoldable pub run : ℕ → List (List ℕ) → List (List ℕ)
-run n [] = []
-run n (p ∷ ps) = cond (validPlace n p) (p ∷ run (n + 1) ps) []
+-- the run of places at the front that are valid, of places from place n on
+unfoldable pub runBy : (ℕ → List ℕ → Bool) → ℕ → List (List ℕ) → List (List ℕ)
+runBy valid n [] = []
+runBy valid n (p ∷ ps) = cond (valid n p) (p ∷ runBy valid (n + 1) ps) []
+
+abbrev pub run : ℕ → List (List ℕ) → List (List ℕ)
+run n ps = runBy validPlace n ps
 
 -- "The log is the run of valid places from place 1." N is the number of places.
 unfoldable pub logOf : ℕ → List ℕ → List (List ℕ)

@@ -109,7 +109,7 @@ pub fn encode(t: &Tables, out: &mut [u8], f: Fields, d: &[u8])
 }
 
 // The four-byte number at an offset.
-fn number(s: &[u8], at: usize) -> u32
+pub fn number(s: &[u8], at: usize) -> u32
     requires { ⌜ at + 4 ≤ length (now s) ⌝ }
     ensures { λ r. ⌜ r ≡ beOf (part at 4 (now (s .entry))) ⌝ }
 {

@@ -1,2 +1,4 @@
 pub mod Converting
 pub mod Verdicts
+pub mod OldRecords
+pub mod Conversion

@@ -11,7 +11,7 @@ use Rattle.fate.specs.Fates.{allOf, after, cutAt, leave}
 use Rattle.storage.specs.Given.{passes, passesAsPlace}
 use Rattle.storage.specs.Places.{recordBytes, idOf, sizeOf, validPlace, wiped}
 use Rattle.storage.specs.Slots.{slotBytes, slotOf, validSlot, newer, currentOf, storedSlot}
-use Rattle.storage.specs.Log.{placeAt, placesFrom, run, logOf, markOf}
+use Rattle.storage.specs.Log.{placeAt, placesFrom, runBy, logOf, markOf}
 use Rattle.storage.specs.Operations.{wipes, promising, closing, prepareWrites}
 use Rattle.storage.specs.Fresh.{freshMedium}
 use Rattle.base.specs.Below.{all, count, highest, upTo}
@@ -37,7 +37,7 @@ unfolding
     takeEffect prepareEffect openEffect openedRegister openedServer issueEffect appendEffect stopEffect
     noSlot promiseAbove promiseDiffers markDiffers backed majorityMark decided firstHeld markedAll markedAt placeOf estimateOf
     prepareWrites promising closing wipes wiped after allOf cutAt leave writeAt passes passesAsPlace
-    markOf logOf run placesFrom placeAt validPlace idOf sizeOf recordBytes
+    markOf logOf runBy placesFrom placeAt validPlace idOf sizeOf recordBytes
     currentOf validSlot newer slotOf storedSlot slotBytes
     sealed checked crcOf crcFrom bitSteps bitStep allZero fieldsOf beBytes beOf beFrom
 unfolded = 0

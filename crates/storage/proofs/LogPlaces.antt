@@ -11,14 +11,14 @@ use Rattle.storage.specs.Log.{placeAt, placesFrom, run, runBy, logOf, ma
 use Rattle.storage.proofs.Scan.{mark-le}
 use Rattle.storage.proofs.Blocks.{getD-places}
 
-run-at : (n i : ℕ) (ps : List (List ℕ)) → i < length (run n ps) → getD (run n ps) i [] ≡ getD ps i []
+pub runBy-at : (valid : ℕ → List ℕ → Bool) (n i : ℕ) (ps : List (List ℕ)) → i < length (runBy valid n ps) → getD (runBy valid n ps) i [] ≡ getD ps i []
 unfolding runBy
-run-at n i [] h = absurd (omega arith)
-run-at n i (p ∷ ps) h = go (validPlace n p) i h (λ j l. run-at (n + 1) j ps l)
+runBy-at valid n i [] h = absurd (omega arith)
+runBy-at valid n i (p ∷ ps) h = go (valid n p) i h (λ j l. runBy-at valid (n + 1) j ps l)
   where
-    go : (b : Bool) (i : ℕ) → i < length (cond b (p ∷ run (n + 1) ps) [])
-        → ((j : ℕ) → j < length (run (n + 1) ps) → getD (run (n + 1) ps) j [] ≡ getD ps j [])
-        → getD (cond b (p ∷ run (n + 1) ps) []) i [] ≡ getD (p ∷ ps) i []
+    go : (b : Bool) (i : ℕ) → i < length (cond b (p ∷ runBy valid (n + 1) ps) [])
+        → ((j : ℕ) → j < length (runBy valid (n + 1) ps) → getD (runBy valid (n + 1) ps) j [] ≡ getD ps j [])
+        → getD (cond b (p ∷ runBy valid (n + 1) ps) []) i [] ≡ getD (p ∷ ps) i []
     go true zero h f = refl
     go true (suc i) h f = f i (omega arith)
     go false i h f = absurd (omega arith)
@@ -28,6 +28,6 @@ pub log-place : (N : ℕ) (m : List ℕ) (n : ℕ) → 1 ≤ n → n ≤ markOf 
 unfolding logOf markOf
 log-place N m n lo hi =
     let q : 1 + (n - 1) ≡ n = omega arith in
-    sym (run-at 1 (n - 1) (placesFrom N 1 m) (omega arith)
+    sym (runBy-at validPlace 1 (n - 1) (placesFrom N 1 m) (omega arith)
     ∙ getD-places N 1 (n - 1) m (omega (arith, mark-le N m))
     ∙ ap (λ (k : ℕ). placeAt k m) q)

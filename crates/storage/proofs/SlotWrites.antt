@@ -46,6 +46,13 @@ stored-by : (c : Current) (m : List ℕ) → currentOf m ≡ c → storedSlot m 
 unfolding storedSlot
 stored-by c m e = ap (λ (i : Current). heldOf i m) e
 
+-- what is current and what is stored follow from the bytes of the two
+pub same-slots : (m m′ : List ℕ) → firstOf m′ ≡ firstOf m → secondOf m′ ≡ secondOf m → (currentOf m′ ≡ currentOf m) × (storedSlot m′ ≡ storedSlot m)
+same-slots m m′ a b = (
+  current-is m′ ∙ ap₂ choice a b ∙ sym (current-is m),
+  stored-is m′ ∙ ap₂ (λ (x y : List ℕ). held (choice x y) x y) a b ∙ sym (stored-is m),
+)
+
 -- ---- a place write
 
 module _ (N j : ℕ) (m bs : List ℕ) (size : length m ≡ mediumSize N) (lo : 1 ≤ j) (hi : j ≤ N) where
@@ -56,12 +63,10 @@ module _ (N j : ℕ) (m bs : List ℕ) (size : length m ≡ mediumSize N) (lo : 
   second-kept = slots-kept N m bs size j slotSize slotSize lo hi (lit≤ tt)
 
   pub current-kept : currentOf (writeAt (placeOffset j) bs m) ≡ currentOf m
-  current-kept = current-is (writeAt (placeOffset j) bs m) ∙ ap₂ choice first-kept second-kept ∙ sym (current-is m)
+  current-kept = same-slots m (writeAt (placeOffset j) bs m) first-kept second-kept .0
 
   pub stored-kept : storedSlot (writeAt (placeOffset j) bs m) ≡ storedSlot m
-  stored-kept =
-      stored-is (writeAt (placeOffset j) bs m)
-      ∙ ap₂ (λ (a b : List ℕ). held (choice a b) a b) first-kept second-kept ∙ sym (stored-is m)
+  stored-kept = same-slots m (writeAt (placeOffset j) bs m) first-kept second-kept .1
 
 -- ---- a slot write
 

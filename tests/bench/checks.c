@@ -11,10 +11,11 @@
 #include <zlib.h>
 #endif
 
-/* A slot: fields and zeros (28), check (4). A place: ID (8), client, generation, partition, sequence, header, data length (4 each),
-   data (28), check (4). A medium: two slots, then its places. Integers are big-endian. */
+/* A slot: fields and zeros (28), check (4). A place: ID (8), client, generation, partition (4 each), sequence (8), header, data length
+   (4 each), data (28), zeros (4), check (4). A medium: two slots, then its places. Integers are big-endian. */
 enum { CHECK = 4, SLOT = 32, SLOTS = 2 * SLOT };
-enum { PLACE = 64, LENGTH_AT = 28, DATA_AT = 32, CHECKED = PLACE - CHECK, DATA = CHECKED - DATA_AT };
+enum { PLACE = 72, CLIENT_AT = 8, PARTITION_AT = 16, SEQUENCE_AT = 20, HEADER_AT = 28, LENGTH_AT = 32, DATA_AT = 36 };
+enum { DATA = 28, CHECKED = PLACE - CHECK };
 enum { REPLICAS = 7, PLACES = 1000, MEDIUM = SLOTS + PLACES * PLACE, MEDIA = REPLICAS * MEDIUM };
 
 /* The bytes whose CRC is taken. */
@@ -53,12 +54,15 @@ static void start(unsigned char *media) {
   }
 }
 
-/* The record of this ID, as twin/src/jobs/stage.rs issues it: client 100, partition 2, sequence 3, header 4, data that differ. */
+/* The record of this ID, as twin/src/jobs/stage.rs issues it, into a wiped place: client 100, generation 0, partition 2, sequence 3,
+   header 4, data that differ. */
 static void put_record(unsigned char *place, uint64_t id) {
-  const uint32_t fields[] = {100, 0, 2, 3, 4, DATA};
   put(place, 8, id);
-  for (size_t i = 0; i < 6; i++)
-    put(place + 8 + 4 * i, 4, fields[i]);
+  put(place + CLIENT_AT, 4, 100);
+  put(place + PARTITION_AT, 4, 2);
+  put(place + SEQUENCE_AT, 8, 3);
+  put(place + HEADER_AT, 4, 4);
+  put(place + LENGTH_AT, 4, DATA);
   for (size_t i = 0; i < DATA; i++)
     place[DATA_AT + i] = (unsigned char)(id - 1 + i);
   seal(place, CHECKED);
@@ -76,6 +80,7 @@ static bool all_zero(const unsigned char *bytes, const unsigned char *end) {
   return bytes == end;
 }
 
+/* Zeros follow the data, up to the check. */
 static bool is_place(const unsigned char *place, uint64_t number) {
   uint64_t length = get(place + LENGTH_AT, 4);
   return get(place, 8) == number && length <= DATA && all_zero(place + DATA_AT + length, place + CHECKED) &&

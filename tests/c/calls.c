@@ -1,50 +1,16 @@
-/* Compares the two exported calls with reference.c on many inputs. Writes how many, and ends with status 1 if one differs. */
+/* Compares the three exported calls with reference.c on many inputs. Writes how many, and ends with status 1 if one differs. */
 #include <inttypes.h>
 #include <stdio.h>
 #include <string.h>
 
+#include "conversions.h"
+#include "inputs.h"
 #include "journal.h"
 #include "reference.h"
 
-enum { PLACE = 64, CHECKED = 60, HEADER = 32, MOST_DATA = 28, LONGEST = 70 };
+enum { LONGEST = 80 };
 
-static uint64_t differences, failed_conditions;
 static uint64_t places_compared, places_valid, locks_compared, locks_placed;
-
-/* ---- inputs */
-
-/* xorshift64: the same numbers in each run */
-static uint64_t random_number(void)
-{
-    static uint64_t state = UINT64_C(0x0123456789ABCDEF);
-    state ^= state << 13;
-    state ^= state >> 7;
-    state ^= state << 17;
-    return state;
-}
-
-static void random_bytes(uint8_t *bytes, size_t length)
-{
-    for (size_t i = 0; i < length; i++)
-        bytes[i] = (uint8_t)(random_number() >> 32);
-}
-
-static void seal(uint8_t *place)
-{
-    put_number(place + CHECKED, 4, crc32_of(place, CHECKED));
-}
-
-/* A place of this ID with so many bytes of data, none of them zero, and any client, generation, partition, sequence, header. */
-static void make_place(uint8_t *place, uint64_t id, size_t data)
-{
-    memset(place, 0, PLACE);
-    put_number(place, 8, id);
-    random_bytes(place + 8, 20);
-    put_number(place + 28, 4, data);
-    for (size_t i = 0; i < data; i++)
-        place[HEADER + i] = (uint8_t)(1 + random_number() % 255);
-    seal(place);
-}
 
 /* ---- comparisons */
 
@@ -54,9 +20,7 @@ static void compare_place(const char *what, const uint8_t *bytes, size_t length,
     uint64_t given = journal_place_check(bytes, length, number);
     places_compared++;
     places_valid += expected;
-    if (given == expected)
-        return;
-    if (differences++ < 20)
+    if (given != expected && differs())
         printf("%s: length %zu, number %" PRIu64 ": gives %" PRIu64 ", not %" PRIu64 "\n", what, length, number, given, expected);
 }
 
@@ -66,19 +30,8 @@ static void compare_lock(uint64_t k, uint64_t j)
     uint64_t given = journal_lock_place(k, j);
     locks_compared++;
     locks_placed += expected < 1024;
-    if (given == expected)
-        return;
-    if (differences++ < 20)
+    if (given != expected && differs())
         printf("lock %" PRIu64 ", j %" PRIu64 ": gives %" PRIu64 ", not %" PRIu64 "\n", k, j, given, expected);
-}
-
-/* What must hold of the inputs and of the code that the calls are compared with. */
-static void require(int condition, const char *what)
-{
-    if (condition)
-        return;
-    failed_conditions++;
-    printf("does not hold: %s\n", what);
 }
 
 /* ---- places */
@@ -113,7 +66,7 @@ static void clients(void)
         for (size_t data = 0; data <= MOST_DATA; data++) {
             make_place(place, 258, data);
             put_number(place + 8, 4, CLIENTS[i]);
-            seal(place);
+            seal(place, CHECKED);
             compare_place("client", place, PLACE, 258);
         }
     }
@@ -162,7 +115,7 @@ static void damaged_bytes(void)
                 damaged[at] = (uint8_t)(damaged[at] ^ change);
                 require(expected_place_check(damaged, PLACE, 258) == 0, "a damaged byte is found");
                 compare_place("damaged", damaged, PLACE, 258);
-                seal(damaged);
+                seal(damaged, CHECKED);
                 compare_place("damaged, then sealed", damaged, PLACE, 258);
             }
         }
@@ -172,14 +125,14 @@ static void damaged_bytes(void)
 static void data_lengths(void)
 {
     static const uint64_t fields[] = {
-        28, 29, 30, 32, 60, 64, 255, 256, 284, 65536, 0x1000000, 0x1000001C, 0x80000000, 0xFFFFFFFF,
+        28, 29, 30, 32, 36, 64, 68, 72, 255, 256, 284, 65536, 0x1000000, 0x1000001C, 0x80000000, 0xFFFFFFFF,
     };
     for (size_t i = 0; i < sizeof fields / sizeof fields[0]; i++) {
         for (size_t data = 0; data <= MOST_DATA; data++) {
             uint8_t place[PLACE];
             make_place(place, 7, data);
-            put_number(place + 28, 4, fields[i]);
-            seal(place);
+            put_number(place + LENGTH_AT, 4, fields[i]);
+            seal(place, CHECKED);
             compare_place("data length", place, PLACE, 7);
         }
     }
@@ -193,8 +146,8 @@ static void tails(void)
             for (int bit = 0; bit < 8; bit++) {
                 uint8_t place[PLACE];
                 make_place(place, 1000, data);
-                place[HEADER + at] = (uint8_t)(1 << bit);
-                seal(place);
+                place[DATA_AT + at] = (uint8_t)(1 << bit);
+                seal(place, CHECKED);
                 compare_place("zeros after the data", place, PLACE, 1000);
             }
         }
@@ -226,6 +179,60 @@ static void checks(void)
     }
 }
 
+/* Each bit of a sequence alone, and sequences of each width up to 64 bits: all are valid. */
+static void sequences(void)
+{
+    uint64_t before = places_valid;
+    for (int bit = 0; bit < 64; bit++) {
+        const uint64_t sequence[] = {UINT64_C(1) << bit, UINT64_MAX >> bit, random_number() >> bit};
+        for (size_t i = 0; i < 3; i++) {
+            uint8_t place[PLACE];
+            make_place(place, 258, random_number() % (MOST_DATA + 1));
+            put_number(place + 20, 8, sequence[i]);
+            seal(place, CHECKED);
+            compare_place("sequence", place, PLACE, 258);
+        }
+    }
+    require(places_valid - before == 64 * 3, "a sequence's number does not matter");
+}
+
+/* One of the four zeros before the check is another byte, and the check fits it. */
+static void zeros_before_the_check(void)
+{
+    uint64_t before = places_valid;
+    for (size_t data = 0; data <= MOST_DATA; data++) {
+        for (size_t at = DATA_AT + MOST_DATA; at < CHECKED; at++) {
+            for (unsigned value = 1; value < 256; value++) {
+                uint8_t place[PLACE];
+                make_place(place, 1000, data);
+                place[at] = (uint8_t)value;
+                seal(place, CHECKED);
+                compare_place("zeros before the check", place, PLACE, 1000);
+            }
+        }
+    }
+    require(places_valid == before, "no place is valid without its four zeros");
+}
+
+/* Old places as they are, with eight zeros more, with a new check behind these, and with the old check there. */
+static void old_places(void)
+{
+    uint64_t before = places_valid;
+    for (uint64_t id = 1; id <= 1000; id++) {
+        uint8_t place[PLACE];
+        memset(place, 0, PLACE);
+        make_old_place(place, id, id % (MOST_DATA + 1));
+        compare_place("old", place, OLD_PLACE, id);
+        compare_place("old, with zeros", place, PLACE, id);
+        seal(place, CHECKED);
+        compare_place("old, with a new check", place, PLACE, id);
+        put_number(place + CHECKED, 4, get_number(place + OLD_CHECKED, 4));
+        put_number(place + OLD_CHECKED, 4, 0);
+        compare_place("old, its check at the end", place, PLACE, id);
+    }
+    require(places_valid == before, "no old place is valid");
+}
+
 /* Random bytes, of which more and more are put right. */
 static void random_places(void)
 {
@@ -238,14 +245,14 @@ static void random_places(void)
         compare_place("random", bytes, PLACE, number);
         put_number(bytes, 8, number);
         compare_place("random, with its ID", bytes, PLACE, number);
-        seal(bytes);
+        seal(bytes, CHECKED);
         compare_place("random, with its ID and check", bytes, PLACE, number);
-        put_number(bytes + 28, 4, data);
-        seal(bytes);
+        put_number(bytes + LENGTH_AT, 4, data);
+        seal(bytes, CHECKED);
         compare_place("random, with ID, length and check", bytes, PLACE, number);
-        if (data < MOST_DATA)
-            memset(bytes + HEADER + data, 0, MOST_DATA - data);
-        seal(bytes);
+        if (data <= MOST_DATA)
+            memset(bytes + DATA_AT + data, 0, CHECKED - DATA_AT - data);
+        seal(bytes, CHECKED);
         compare_place("random, with all but the record", bytes, PLACE, number);
     }
 }
@@ -308,11 +315,15 @@ int main(void)
     damaged_bytes();
     data_lengths();
     tails();
+    sequences();
+    zeros_before_the_check();
+    old_places();
     checks();
     random_places();
     locks();
     printf("place check: %" PRIu64 " compared, %" PRIu64 " of them valid\n", places_compared, places_valid);
     printf("lock places: %" PRIu64 " compared, %" PRIu64 " of them places\n", locks_compared, locks_placed);
+    conversions();
     printf("%" PRIu64 " differ\n", differences);
     return differences == 0 && failed_conditions == 0 ? 0 : 1;
 }

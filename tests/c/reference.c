@@ -33,19 +33,28 @@ uint32_t crc32_of(const uint8_t *bytes, size_t length)
     return ~crc;
 }
 
+static int zeros(const uint8_t *bytes, uint64_t from, uint64_t to)
+{
+    for (uint64_t i = from; i < to; i++)
+        if (bytes[i] != 0)
+            return 0;
+    return 1;
+}
+
+/* Whether the check behind so many bytes agrees with them. */
+static int agrees(const uint8_t *bytes, size_t checked)
+{
+    return crc32_of(bytes, checked) == get_number(bytes + checked, 4);
+}
+
 uint64_t expected_place_check(const uint8_t *bytes, size_t length, uint64_t number)
 {
-    if (length != 64 || number == 0 || number > 1000)
+    if (length != 72 || number == 0 || number > 1000)
         return 0;
     if (get_number(bytes, 8) != number)
         return 0;
-    uint64_t data = get_number(bytes + 28, 4);
-    if (data > 28)
-        return 0;
-    for (uint64_t i = 32 + data; i < 60; i++)
-        if (bytes[i] != 0)
-            return 0;
-    return crc32_of(bytes, 60) == get_number(bytes + 60, 4);
+    uint64_t data = get_number(bytes + 32, 4);
+    return data <= 28 && zeros(bytes, 36 + data, 64) && zeros(bytes, 64, 68) && agrees(bytes, 68);
 }
 
 /* Products of unsigned 64-bit numbers are taken mod 2^64, and the rest divided by 2^54 is its top ten bits. */
@@ -61,4 +70,65 @@ uint64_t expected_lock_place(uint64_t k, uint64_t j)
     default:
         return 1024;
     }
+}
+
+static int old_place_is_valid(const uint8_t *place, uint64_t number)
+{
+    if (get_number(place, 8) != number)
+        return 0;
+    uint64_t data = get_number(place + 28, 4);
+    return data <= 28 && zeros(place, 32 + data, 60) && agrees(place, 60);
+}
+
+size_t old_mark(const uint8_t *old_medium, size_t places)
+{
+    size_t mark = 0;
+    while (mark < places && old_place_is_valid(old_medium + 64 + 64 * mark, mark + 1))
+        mark++;
+    return mark;
+}
+
+static int slot_is_valid(const uint8_t *slot)
+{
+    return zeros(slot, 24, 28) && agrees(slot, 28);
+}
+
+/* The number of places that both lengths are made for; 0 if there is none. */
+static size_t places_of(size_t old_length, size_t new_length)
+{
+    for (size_t places = 1; places <= 1000; places++)
+        if (old_length == 64 + 64 * places && new_length == 64 + 72 * places)
+            return places;
+    return 0;
+}
+
+/* Each field is read as a number and written again, in its new width and at its new offset. */
+static void convert_place(const uint8_t *old_place, uint8_t *place)
+{
+    put_number(place, 8, get_number(old_place, 8));
+    put_number(place + 8, 4, get_number(old_place + 8, 4));
+    put_number(place + 12, 4, get_number(old_place + 12, 4));
+    put_number(place + 16, 4, get_number(old_place + 16, 4));
+    put_number(place + 20, 8, get_number(old_place + 20, 4));
+    put_number(place + 28, 4, get_number(old_place + 24, 4));
+    put_number(place + 32, 4, get_number(old_place + 28, 4));
+    for (size_t i = 0; i < 28; i++)
+        place[36 + i] = old_place[32 + i];
+    put_number(place + 64, 4, 0);
+    put_number(place + 68, 4, crc32_of(place, 68));
+}
+
+uint64_t expected_convert(const uint8_t *old_medium, size_t old_length, uint8_t *new_medium, size_t new_length)
+{
+    size_t places = places_of(old_length, new_length);
+    if (places == 0 || (!slot_is_valid(old_medium) && !slot_is_valid(old_medium + 32)))
+        return 27;
+    size_t mark = old_mark(old_medium, places);
+    for (size_t i = 0; i < 64; i++)
+        new_medium[i] = old_medium[i];
+    for (size_t i = 64; i < new_length; i++)
+        new_medium[i] = 0;
+    for (size_t n = 0; n < mark; n++)
+        convert_place(old_medium + 64 + 64 * n, new_medium + 64 + 72 * n);
+    return 0;
 }

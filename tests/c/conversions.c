@@ -17,8 +17,8 @@ enum { OLD_ROOM = SLOTS + OLD_PLACE * LONGEST, ROOM = ADDRESSES + BESIDE + SLOTS
 
 static uint64_t compared, converted;
 
-/* The old medium of the next comparison, and what the second slice and the bytes beside it hold before. */
-static uint8_t old_medium[OLD_ROOM], pattern[ROOM];
+/* The old medium of the next comparison, what the second slice and the bytes beside it hold before, and what they must hold after. */
+static uint8_t old_medium[OLD_ROOM], pattern[ROOM], expected_bytes[ROOM];
 
 static size_t old_bytes(size_t places)
 {
@@ -38,9 +38,7 @@ static uint8_t *old_place(size_t number)
 /* ---- comparisons */
 
 /* The call gets the old medium and the second slice at another address each time. Neither the old medium nor a byte beside the second
- * slice changes, and with 27 the second slice does not either. Leaves the new medium, if there is one, in `made`. */
-static uint8_t made[ROOM];
-
+ * slice changes, and with 27 the second slice does not either. */
 static void compare(const char *what, size_t old_length, size_t new_length)
 {
     static uint8_t moved[ADDRESSES + OLD_ROOM], lent[ROOM];
@@ -49,12 +47,12 @@ static void compare(const char *what, size_t old_length, size_t new_length)
     size_t around = BESIDE + new_length + BESIDE;
     memcpy(old_moved, old_medium, old_length);
     memcpy(beside, pattern, around);
-    memcpy(made, pattern, around);
-    uint64_t expected = expected_convert(old_medium, old_length, made + BESIDE, new_length);
+    memcpy(expected_bytes, pattern, around);
+    uint64_t expected = expected_convert(old_medium, old_length, expected_bytes + BESIDE, new_length);
     uint64_t given = journal_convert(old_moved, old_length, beside + BESIDE, new_length);
     compared++;
     converted += expected == 0;
-    int same = memcmp(beside, made, around) == 0 && memcmp(old_moved, old_medium, old_length) == 0;
+    int same = memcmp(beside, expected_bytes, around) == 0 && memcmp(old_moved, old_medium, old_length) == 0;
     if ((given != expected || !same) && differs())
         printf("%s: lengths %zu and %zu: gives %" PRIu64 " (%" PRIu64 " expected), %s\n", what, old_length, new_length, given,
                expected, same ? "the bytes expected" : "other bytes");
@@ -65,12 +63,12 @@ static void compare_medium(const char *what, size_t places)
     compare(what, old_bytes(places), new_bytes(places));
 }
 
-/* The new medium of the last comparison has as many valid places as the old one's log, and those only. */
+/* The new medium that the last comparison expects has as many valid places as the old one's log, and those only. */
 static void read_back(size_t places)
 {
     size_t mark = old_mark(old_medium, places);
     for (size_t n = 1; n <= places; n++) {
-        uint64_t valid = journal_place_check(made + BESIDE + new_bytes(n - 1), PLACE, n);
+        uint64_t valid = journal_place_check(expected_bytes + BESIDE + new_bytes(n - 1), PLACE, n);
         require(valid == (n <= mark), "the new medium's log is the old one's");
     }
 }
@@ -135,7 +133,7 @@ static void by_hand(void)
     memset(expected, 0, sizeof expected);
     memcpy(expected, old_medium, SLOTS);
     put_record(expected + SLOTS, PLACE, 8, 0xC60E944B);
-    require(memcmp(made + BESIDE, expected, sizeof expected) == 0, "a medium written by hand is converted to one written by hand");
+    require(memcmp(expected_bytes + BESIDE, expected, sizeof expected) == 0, "a medium written by hand is converted to one written by hand");
 }
 
 /* Logs that end at each place, and what may stand above them. */
@@ -316,7 +314,7 @@ static void twice(void)
 {
     make_medium(8, 8);
     compare_medium("once", 8);
-    memcpy(old_medium, made + BESIDE, new_bytes(8));
+    memcpy(old_medium, expected_bytes + BESIDE, new_bytes(8));
     compare_medium("twice", 9);
     read_back(9);
     require(old_mark(old_medium, 9) == 0, "a new place is no old one");

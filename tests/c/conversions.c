@@ -133,7 +133,7 @@ static void by_hand(void)
     memset(expected, 0, sizeof expected);
     memcpy(expected, old_medium, SLOTS);
     put_record(expected + SLOTS, PLACE, 8, 0xC60E944B);
-    require(memcmp(expected_bytes + BESIDE, expected, sizeof expected) == 0, "a medium written by hand is converted to one written by hand");
+    require(memcmp(expected_bytes + BESIDE, expected, sizeof expected) == 0, "a medium is converted to the one written by hand");
 }
 
 /* Logs that end at each place, and what may stand above them. */

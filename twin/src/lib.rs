@@ -7,6 +7,7 @@ pub mod hex;
 pub mod random;
 
 pub mod medium;
+pub mod old;
 pub mod segment;
 
 pub mod replica;

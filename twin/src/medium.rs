@@ -17,24 +17,26 @@ pub const SLOT_CHECK_AT: usize = SLOT_BYTES - CHECK_BYTES;
 /// Both slots, before the first place.
 pub const SLOTS_BYTES: usize = 2 * SLOT_BYTES;
 
-/// A place: ID (8), client, generation, partition, sequence, header, data length (4 each), data
-/// (28), check (4).
-pub const PLACE_BYTES: usize = 64;
+/// A place: ID (8), client, generation, partition (4 each), sequence (8), header, data length (4 each),
+/// data (28), zeros (4), check (4). Document 02, No. 7 made the sequence so long, "with four zero bytes
+/// before the check".
+pub const PLACE_BYTES: usize = 72;
 const ID_AT: usize = 0;
 const CLIENT_AT: usize = 8;
 const GENERATION_AT: usize = 12;
 const PARTITION_AT: usize = 16;
 const SEQUENCE_AT: usize = 20;
-const HEADER_AT: usize = 24;
-pub const LENGTH_AT: usize = 28;
-pub const DATA_AT: usize = 32;
+const HEADER_AT: usize = 28;
+pub const LENGTH_AT: usize = 32;
+pub const DATA_AT: usize = 36;
+pub const PLACE_ZEROS_AT: usize = 64;
 pub const PLACE_CHECK_AT: usize = PLACE_BYTES - CHECK_BYTES;
 
 /// The most places that a medium has.
 pub const MOST_PLACES: u64 = 1000;
 
 /// The most data bytes that a record holds.
-pub const DATA_LIMIT: usize = PLACE_CHECK_AT - DATA_AT;
+pub const DATA_LIMIT: usize = PLACE_ZEROS_AT - DATA_AT;
 
 pub type SlotBytes = [u8; SLOT_BYTES];
 pub type PlaceBytes = [u8; PLACE_BYTES];
@@ -96,7 +98,7 @@ pub struct Record<'a> {
     pub client: u32,
     pub generation: u32,
     pub partition: u32,
-    pub sequence: u32,
+    pub sequence: u64,
     pub header: u32,
     pub data: &'a [u8],
 }
@@ -112,13 +114,14 @@ impl<'a> Record<'a> {
         put(&mut bytes, SEQUENCE_AT, &self.sequence.to_be_bytes());
         put(&mut bytes, HEADER_AT, &self.header.to_be_bytes());
         put(&mut bytes, LENGTH_AT, &(self.data.len() as u32).to_be_bytes());
-        put(&mut bytes[..PLACE_CHECK_AT], DATA_AT, self.data);
+        put(&mut bytes[..PLACE_ZEROS_AT], DATA_AT, self.data);
         seal(&mut bytes);
         bytes
     }
 
-    /// The record in `bytes`, if they are a valid place of this number. It is inlined, and so are
-    /// `is_place` and `is_sealed`, so that every scan of places is compiled alike.
+    /// The record in `bytes`, if they are a valid place of this number: all is zero from the end of the
+    /// data to the check. It is inlined, and so are `is_place` and `is_sealed`, so that every scan of
+    /// places is compiled alike.
     #[inline(always)]
     pub fn decode(number: u64, bytes: &'a [u8]) -> Option<Record<'a>> {
         let length = be32(bytes, LENGTH_AT) as usize;
@@ -137,7 +140,7 @@ impl<'a> Record<'a> {
             client: be32(bytes, CLIENT_AT),
             generation: be32(bytes, GENERATION_AT),
             partition: be32(bytes, PARTITION_AT),
-            sequence: be32(bytes, SEQUENCE_AT),
+            sequence: be64(bytes, SEQUENCE_AT),
             header: be32(bytes, HEADER_AT),
             data: &bytes[DATA_AT..DATA_AT + length],
         }
@@ -149,7 +152,7 @@ pub fn is_place(number: u64, bytes: &[u8]) -> bool {
     Record::decode(number, bytes).is_some()
 }
 
-/// Whether 64 bytes pass as a slot (their first 32 do) or as any place from 1 to `places`.
+/// Whether given bytes pass as a slot (their first 32 do) or as any place from 1 to `places`.
 pub fn passes(bytes: &PlaceBytes, places: u64) -> bool {
     let id = be64(bytes, ID_AT);
     let as_place = (1..=places).contains(&id) && is_place(id, bytes);
@@ -172,7 +175,7 @@ pub fn places(medium: &[u8]) -> impl Iterator<Item = &[u8]> {
     medium[SLOTS_BYTES..].chunks_exact(PLACE_BYTES)
 }
 
-/// The 64 bytes of place `number`, from 1 to the medium's number of places.
+/// The bytes of place `number`, from 1 to the medium's number of places.
 pub fn place(medium: &[u8], number: u64) -> PlaceBytes {
     let at = place_at(number);
     medium[at..at + PLACE_BYTES].try_into().expect("a place")
@@ -204,7 +207,7 @@ pub fn seal(bytes: &mut [u8]) {
 }
 
 #[inline(always)]
-fn is_sealed(bytes: &[u8]) -> bool {
+pub(crate) fn is_sealed(bytes: &[u8]) -> bool {
     let (checked, check) = bytes.split_at(bytes.len() - CHECK_BYTES);
     be32(check, 0) == crc32(checked)
 }
@@ -222,6 +225,6 @@ pub(crate) fn be64(bytes: &[u8], at: usize) -> u64 {
     u64::from_be_bytes(bytes[at..at + 8].try_into().expect("eight bytes"))
 }
 
-fn all_zero(bytes: &[u8]) -> bool {
+pub(crate) fn all_zero(bytes: &[u8]) -> bool {
     bytes.iter().all(|&byte| byte == 0)
 }

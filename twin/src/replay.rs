@@ -16,24 +16,25 @@
 //! | server | server, phase (0 idle, 1 opening, 2 open), session, generation, starting, issued and acknowledged mark | of the server's record |
 //! | handed | server, replica, ENTRY | what take handed over |
 //! | replica | server, replica, standing (0 out, 1 in, 2 dropped), recorded mark | of the server's record |
-//! | held | server, index (0 the oldest, to 7 the newest), 64 BYTES | a record that it holds |
-//! | given | 64 BYTES | what a torn write leaves |
-//! | data | BYTES | of the requests that follow |
+//! | held | server, index (0 the oldest, to 7 the newest), 72 BYTES | a record that it holds |
+//! | given | 72 BYTES | what a torn write leaves |
+//! | data | up to 72 BYTES | of the requests that follow |
 //! | locks | each of up to 8 | of the requests that follow |
 //!
 //! Before anything is handed in, all is 0. A fresh line's R is at most 7 and its N at most 14; its K
-//! may be any, and so may all three of a shape line.
+//! may be any, and so may all three of a shape line. A lend line's bytes are at most 8,008 (seven media
+//! of 15 places) and its marks at most 4,100.
 //!
 //! ENTRY stands for three fields: session; 0 if unresolved, else 1; the closing mark. The calls are
 //! take, prepare, copy, trim, open, issue, send, note, read, export, stop and reassign with their
 //! numbers in document 01's order (issue: server, client's mark, client, generation, partition,
-//! sequence, header; export: server, replica), then those of the fate: 0 answered, 1 lost, 2 answer
+//! sequence, which has 64 bits, header; export: server, replica), then those of the fate: 0 answered, 1 lost, 2 answer
 //! lost or 3 cut; the write w; 0 old, 1 new or 2 torn. Behind the fate an export has the time, the
 //! lengths at which data and index file are lent, up to 1,200 and 300 bytes, and the key, 16 BYTES.
 //! Each byte of both files is AA before the call.
 //!
 //! A call prints ok with its value if it has one, no with the number (and lock and estimate behind
-//! 15), or silent; behind that the 64 bytes that read answers; then three check sums (CRC-32, 8
+//! 15), or silent; behind that the 72 bytes that read answers; then three check sums (CRC-32, 8
 //! digits): of the records (see `sums`), of the media and of the lock tables as lent; and behind an
 //! export those of data and index file. A line that fits no form prints bad.
 
@@ -49,6 +50,7 @@ mod names;
 mod random_states;
 mod recorder;
 mod scenes;
+mod sequences;
 mod state_lines;
 mod sums;
 mod texts;
@@ -56,7 +58,7 @@ mod texts;
 use crate::random::Random;
 
 pub use counts::{Counts, CALLS};
-pub use names::{AMOUNTS, CLIENTS, ENDS, ESTIMATES, FATES, INTERVALS, UNSENT};
+pub use names::{AMOUNTS, CLIENTS, ENDS, ESTIMATES, FATES, GIVEN, INTERVALS, SEQUENCES, UNSENT};
 
 /// The stored run: its lines, what they print, and what it meets.
 pub struct Run {

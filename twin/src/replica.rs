@@ -22,7 +22,7 @@ impl Write {
     pub fn torn(&self, given: &PlaceBytes) -> Write {
         match self {
             Write::Slot(index, _) => {
-                let first = given[..SLOT_BYTES].try_into().expect("half of 64 bytes");
+                let first = given[..SLOT_BYTES].try_into().expect("a slot");
                 Write::Slot(*index, first)
             }
             Write::Place(number, _) => Write::Place(*number, *given),

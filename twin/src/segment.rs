@@ -1,4 +1,5 @@
-//! Segment files: a log as the data and index file that archive sites keep (document 02, No. 3).
+//! Segment files: a log as the data and index file that archive sites keep (document 02, No. 3), with the
+//! long sequence of No. 7: "Segment files carry the 64 bits too, as version 2, and only version 2 is read."
 //!
 //! Both files begin with the same header. In the data file the records follow, in the index file the
 //! offset of each of them, counted from the start of the data file (004: "Each element is byte
@@ -22,9 +23,8 @@ const KEY_AT: usize = 12;
 const PARTITION_AT: usize = 28;
 const FIRST_AT: usize = 32;
 
-/// "with version 1, partition 0, first ID 1", also for an empty log. The records keep their own
-/// partition.
-const VERSION: u32 = 1;
+/// "partition 0, first ID 1", also for an empty log. The records keep their own partition.
+const VERSION: u32 = 2;
 const PARTITION: u32 = 0;
 const FIRST: u64 = 1;
 

@@ -1,6 +1,7 @@
 //! Calls and states to try: lists of calls that get somewhere, scenes with faults, issue around the
 //! interval, around the client's mark and around its limits, send and issue around what is held, exports
-//! with files of any length, imports of pairs whole and spoilt, random states.
+//! with files of any length, imports of pairs whole and spoilt, records with any fields, places near valid
+//! ones, random states.
 
 pub mod caller;
 pub mod checkpoint;
@@ -11,6 +12,9 @@ pub mod import_rows;
 pub mod imports;
 pub mod in_flight;
 pub mod limits;
+pub mod records;
 pub mod scene;
 pub mod states;
+pub mod unfit;
 pub mod useful;
+pub mod version_1;

@@ -5,16 +5,16 @@ use twin::medium::{is_place, Record, PLACE_BYTES};
 use twin::random::Random;
 
 fn record(id: u64) -> [u8; PLACE_BYTES] {
-    let (client, generation, partition, sequence, header) = (1, 2, 3, 4, 5);
+    let (client, generation, partition, sequence, header) = (1, 2, 3, 1 << 32, 5);
     Record { id, client, generation, partition, sequence, header, data: b"data" }.encode()
 }
 
 #[test]
-fn place_check_needs_64_bytes_and_a_number_from_1_to_1000() {
+fn place_check_needs_72_bytes_and_a_number_from_1_to_1000() {
     for id in [1, 2, 999, 1000] {
         assert_eq!(place_check(&record(id), id), 1);
         assert_eq!(place_check(&record(id), id + 1), 0);
-        assert_eq!(place_check(&record(id)[..63], id), 0);
+        assert_eq!(place_check(&record(id)[..71], id), 0);
         assert_eq!(place_check(&[&record(id)[..], &[0]].concat(), id), 0);
     }
     assert_eq!(place_check(&[], 1), 0);

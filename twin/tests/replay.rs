@@ -1,11 +1,13 @@
 //! The stored run of the replay program is what this implementation gives, and it meets every call,
 //! refusal, fate and kind of interval, gates and booking clients on both sides of their limits, locks on
-//! both sides of the client's mark, every end of an exported log, and every number of records in flight.
+//! both sides of the client's mark, every end of an exported log, every number of records in flight, and
+//! sequences on both sides of what 32 bits hold.
 
 mod stored;
 
 use twin::cluster::{first_row, FILES_ROW, ORDER};
 use twin::replay::{self, AMOUNTS, CALLS, CLIENTS, ENDS, ESTIMATES, FATES, INTERVALS, UNSENT};
+use twin::replay::{GIVEN, SEQUENCES};
 
 /// Calls without a message, and those whose message goes to the register.
 const LOCAL: [&str; 3] = ["issue", "stop", "reassign"];
@@ -151,12 +153,30 @@ fn records_are_in_flight() {
     assert!(counts.refused("issue", first_row(13)) > 10);
 }
 
+/// Below, at and above the edge of 32 bits, and at the ends.
+#[test]
+fn sequences_of_either_width_are_issued() {
+    let counts = replay::run().counts;
+    let met = SEQUENCES.map(|name| counts.sequence(name));
+    assert!(met.iter().all(|&count| count > 5), "{met:?}");
+    assert_eq!(met.iter().sum::<u64>(), counts.ok("issue"));
+}
+
+/// What passes as a slot or place is declined by 6; what would pass as a place of the old layout alone is
+/// not.
+#[test]
+fn given_bytes_pass_as_either_layout() {
+    let counts = replay::run().counts;
+    let met = GIVEN.map(|name| counts.given(name));
+    let [slot, place, above, old, nothing] = met;
+    assert!(slot > 10 && place > 10 && above > 0 && old > 15 && nothing > 100, "{met:?}");
+}
+
 #[test]
 fn lines_and_files_are_small() {
     let run = replay::run();
-    // 600,000 before exports came in, with states of their own and files of other lengths.
-    assert!(run.input.len() + run.output.len() < 700_000);
+    assert!(run.input.len() + run.output.len() < 760_000);
     assert!(run.input.lines().all(|line| line.len() <= 2_000));
     assert!(run.input.is_ascii() && run.input.ends_with('\n'));
-    assert!((3_000..=6_000).contains(&run.counts.calls()));
+    assert!((3_000..=6_500).contains(&run.counts.calls()));
 }

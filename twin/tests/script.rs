@@ -195,10 +195,9 @@ fn issue_fills_in_client_100() {
     let record = Record { id: 1, client, generation, partition, sequence, header, data };
     for bytes in [cluster.records.servers[0].held[HELD - 1], place(cluster.medium(0), 1)] {
         assert_eq!(Record::decode(1, &bytes), Some(record));
-        assert_eq!(
-            bytes[8..32],
-            [0, 0, 0, 100, 0, 0, 0, 0, 0, 0, 0, 0, 0, 0, 0, 0, 0, 0, 0, 9, 0, 0, 0, 2]
-        );
+        // Generation, partition and sequence have 16 bytes together.
+        let fields = [&[0, 0, 0, 100][..], &[0; 16], &[0, 0, 0, 9, 0, 0, 0, 2]].concat();
+        assert_eq!(bytes[8..36], fields);
     }
 }
 

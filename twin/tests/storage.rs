@@ -7,13 +7,13 @@ use twin::medium::{
 };
 use twin::random::Random;
 use twin::replica::{Found, Operation};
+use twin::tries::records::draw_record;
 
 const PLACES: usize = 6;
 
 fn record(random: &mut Random, id: u64) -> [u8; PLACE_BYTES] {
-    let data = &random.bytes(id as usize % (DATA_LIMIT + 1));
-    let [client, generation, partition, sequence, header] = [(); 5].map(|_| random.word());
-    Record { id, client, generation, partition, sequence, header, data }.encode()
+    let data = random.bytes(id as usize % (DATA_LIMIT + 1));
+    draw_record(random, id, &data).encode()
 }
 
 /// A medium with this mark and nothing valid above it, one of its slots current at random.
@@ -87,10 +87,8 @@ fn records_read_back() {
     let mut random = Random::new(4);
     for length in 0..=DATA_LIMIT {
         for _ in 0..50 {
-            let [client, generation, partition, sequence, header] = [(); 5].map(|_| random.word());
-            let data = &random.bytes(length);
-            let id = 1 + random.below(1000);
-            let record = Record { id, client, generation, partition, sequence, header, data };
+            let (id, data) = (1 + random.below(1000), random.bytes(length));
+            let record = draw_record(&mut random, id, &data);
             assert_eq!(Record::decode(id, &record.encode()), Some(record));
             assert_eq!(Record::decode(id + 1, &record.encode()), None);
         }

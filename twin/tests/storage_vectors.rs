@@ -23,8 +23,8 @@ fn stored_output_answers_the_stored_input() {
 fn lines_and_input_are_small() {
     let input = vectors::input();
     // Each byte and each length of a pair of segment files is a line that has the pair.
-    assert!(input.len() < 950_000);
-    assert!(input.lines().all(|line| line.len() <= 2_000));
+    assert!(input.len() < 1_600_000);
+    assert!(input.lines().all(|line| line.len() <= 130_000));
     assert!(input.is_ascii() && input.ends_with('\n'));
 }
 
@@ -85,7 +85,7 @@ fn lines_that_fit_no_form_are_bad() {
     let fits = |line: &str| vectors::output(line) != "bad\n";
     let key = "00112233445566778899AABBCCDDEEFF";
     let empty = format!("import\t1\t7\t{key}\t\t\t");
-    let log = format!("pair\t7\t{key}\t1\t{}", "00".repeat(128));
+    let log = format!("pair\t7\t{key}\t1\t{}", "00".repeat(136));
     assert!(fits(&empty) && fits(&log) && fits("crc\t"));
     let spoilt = [
         format!("{empty}\t"),
@@ -96,7 +96,7 @@ fn lines_that_fit_no_form_are_bad() {
         log.replace("FF", "FFFF"),
         log.replace("\t1\t", "\t2\t"),
         log.replace("\t1\t", "\t\t"),
-        format!("crc\t{}", "0".repeat(1_998)),
+        format!("crc\t{}", "0".repeat(129_998)),
     ];
     let short =
         ["\n", "crc", "wait\t1", "crc\t0", "slotof\t1\t2", "slotof\t1\t+2\t3", "place\t1\t"];

@@ -26,7 +26,7 @@ pub struct Request {
     pub client: u32,
     pub generation: u32,
     pub partition: u32,
-    pub sequence: u32,
+    pub sequence: u64,
     pub header: u32,
     pub data: Vec<u8>,
     pub locks: Vec<u64>,

@@ -1,12 +1,13 @@
 //! What a run meets: replies of each call, fates, intervals, what gates and booking clients ask for, locks
-//! around the client's mark, ends of exported logs, and records in flight.
+//! around the client's mark, ends of exported logs, records in flight, sequences, and given bytes.
 
 use std::collections::BTreeMap;
 use std::fmt;
 
 use super::names::{amount_name, end_name, estimate_name, fate_name, fate_of, interval_name};
-use super::names::{in_flight, sent_index, unsent_name};
+use super::names::{given_name, in_flight, sent_index, sequence_name, unsent_name};
 use super::names::{AMOUNTS, CLIENTS, ENDS, ESTIMATES, FATES, INTERVALS, UNSENT};
+use super::names::{GIVEN, SEQUENCES};
 use super::texts::word;
 use crate::cluster::{Answer, Call, Cluster, Refusal, Reply, HELD, ORDER};
 
@@ -38,6 +39,10 @@ pub struct Counts {
     sent: [u64; HELD],
     /// Sends without a record.
     unsent: BTreeMap<&'static str, u64>,
+    /// Requests granted, by their sequence.
+    sequences: BTreeMap<&'static str, u64>,
+    /// Torn writes asked for, by what the given bytes pass as.
+    given: BTreeMap<&'static str, u64>,
     /// Whether issue was declined with 23 since the last state was handed in or session opened.
     due: bool,
     /// Sessions opened after that.
@@ -83,6 +88,12 @@ impl Counts {
         }
         if let Some(name) = unsent_name(cluster, call, reply) {
             *self.unsent.entry(name).or_default() += 1;
+        }
+        if let Some(name) = sequence_name(call, reply) {
+            *self.sequences.entry(name).or_default() += 1;
+        }
+        if let Some(name) = given_name(cluster, call) {
+            *self.given.entry(name).or_default() += 1;
         }
     }
 
@@ -169,6 +180,16 @@ impl Counts {
         self.unsent.get(name).copied().unwrap_or(0)
     }
 
+    /// How many requests were granted with such a sequence.
+    pub fn sequence(&self, name: &str) -> u64 {
+        self.sequences.get(name).copied().unwrap_or(0)
+    }
+
+    /// How many torn writes were to leave such bytes.
+    pub fn given(&self, name: &str) -> u64 {
+        self.given.get(name).copied().unwrap_or(0)
+    }
+
     /// How many sessions were opened on a cluster where issue had been declined with 23 since the
     /// one before.
     pub fn forced(&self) -> u64 {
@@ -181,8 +202,8 @@ impl Counts {
 }
 
 /// A table of replies by call, in which 1 stands once more behind 20 (the lengths of export's files); one
-/// of fates and one of K by call, one of what clients ask for, one of estimates, one of ends, what was in
-/// flight and held, and the writes that were cut.
+/// of fates and one of K by call, one of what clients ask for, one of estimates, one of ends, one of
+/// sequences, one of given bytes, what was in flight and held, and the writes that were cut.
 impl fmt::Display for Counts {
     fn fmt(&self, f: &mut fmt::Formatter<'_>) -> fmt::Result {
         write!(f, "{:9}{:>6}{:>7}", "call", "ok", "silent")?;
@@ -200,6 +221,8 @@ impl fmt::Display for Counts {
         write_table(f, "estimate", "issue", &ESTIMATES, |name| self.estimate(name))?;
         write_table(f, "end", "export", &ENDS, |name| self.end(name))?;
         write_table(f, "unsent", "send", &UNSENT, |name| self.unsent(name))?;
+        write_table(f, "sequence", "issue", &SEQUENCES, |name| self.sequence(name))?;
+        write_table(f, "given", "torn", &GIVEN, |name| self.given(name))?;
         writeln!(f)?;
         write!(f, "\nissued with 0 to 7 in flight {:?}", self.in_flight)?;
         write!(f, "\nsent from index 0 to 7 {:?}", self.sent)?;

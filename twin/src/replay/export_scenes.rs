@@ -9,6 +9,7 @@ use crate::medium::{place_at, put, Record, DATA_LIMIT, PLACE_BYTES, SLOT_BYTES, 
 use crate::random::Random;
 use crate::tries::exports::{draw_export, exact_lengths};
 use crate::tries::faults::{faults_of, with_faults, Fault};
+use crate::tries::records::draw_sequence;
 use crate::tries::scene::{record_bytes, Scene, EXACT, EXPORTED, PLACES, REPLICA, SERVER};
 
 /// Scenes with marks, records, stamps and lengths that are drawn.
@@ -27,7 +28,7 @@ pub fn replay(recorder: &mut Recorder, random: &mut Random, scene: &Scene) {
 /// Other lengths under fates that are not answered: silent, and the files stay.
 fn other_files(recorder: &mut Recorder, scene: &Scene) {
     let [data, index] = EXACT;
-    for lengths in [[data - 1, index], [data, index + 1], [0, 0], [index, data]] {
+    for lengths in [[data - 1, index], [data, index + 1], [0, 0], [index, 300]] {
         for fate in [Fate::Lost, Fate::Cut(1, Left::Torn), Fate::Cut(2, Left::Old)] {
             let mut scene = scene.clone();
             scene.lend(lengths);
@@ -118,8 +119,8 @@ fn with_marks(scene: &Scene, mark: u64, acknowledged: u64) -> Scene {
 /// Records with so much data each, from place 1 on.
 fn put_records(random: &mut Random, scene: &mut Scene, sizes: &[usize]) {
     for (id, &size) in (1..).zip(sizes) {
-        let [client, generation, partition, sequence, header] = [(); 5].map(|_| top(random));
-        let data = &random.bytes(size);
+        let [client, generation, partition, header] = [(); 4].map(|_| top(random));
+        let (sequence, data) = (draw_sequence(random), &random.bytes(size));
         let record = Record { id, client, generation, partition, sequence, header, data };
         put(scene.medium(), place_at(id), &record.encode());
     }

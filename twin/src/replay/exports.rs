@@ -64,9 +64,9 @@ fn open(recorder: &mut Recorder, server: u64, replicas: u64) {
     recorder.call(&Call::Open { server, fate }).expect("the mark is decided");
 }
 
-/// A record of partition 5, sent to so many replicas.
+/// A record of partition 5, whose sequence 32 bits do not hold, sent to so many replicas.
 fn book(recorder: &mut Recorder, server: u64, replicas: u64, data: Vec<u8>) {
-    let (client, partition, sequence, header) = (258, 5, 77, 9);
+    let (client, partition, sequence, header) = (258, 5, (1 << 32) + 77, 9);
     let request = Request { client, partition, sequence, header, data, ..Request::default() };
     recorder.call(&Call::Issue { server, request }).expect("nothing stands in the way");
     for replica in 0..replicas {

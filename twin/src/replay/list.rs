@@ -1,7 +1,7 @@
 //! The list of states and calls of a run.
 
 use super::recorder::Recorder;
-use super::{exports, in_flight, limits, locks, random_states, scenes, Run};
+use super::{exports, in_flight, limits, locks, random_states, scenes, sequences, Run};
 use crate::cluster::{Call, Cluster, Shape};
 use crate::fate::Fate;
 use crate::hex;
@@ -37,6 +37,7 @@ pub fn replay(random: &mut Random) -> Run {
     exports::list(&mut recorder);
     in_flight::list(&mut recorder);
     limits::list(&mut recorder);
+    sequences::list(&mut recorder);
     limits::replay(&mut recorder);
     scenes::replay(&mut recorder, random);
     in_flight::replay(&mut recorder);
@@ -62,7 +63,7 @@ fn bad_lines(recorder: &mut Recorder) {
         "server\t4\t0\t0\t0\t0\t0\t0",
         "given\t00",
         "data\tA",
-        "lend\t7169\t4096",
+        "lend\t8009\t4096",
         "fresh\t3\t4",
         "fresh\t3\t4\t4\t4",
         "shape\t3\t4",
@@ -84,6 +85,7 @@ fn bad_lines(recorder: &mut Recorder) {
     ];
     lines.iter().for_each(|line| recorder.bad(line));
     bad_held_lines(recorder);
+    sequences::bad_lines(recorder);
     recorder.call(&Call::Reassign).expect_err("still no shape");
 }
 

@@ -1,11 +1,14 @@
 //! What a call is counted as: its fate, K beside N, how much a client asks for, its locks beside the
-//! client's mark, the end of what it exports, records in flight, which held record it sends or why none.
+//! client's mark, the end of what it exports, records in flight, which held record it sends or why none,
+//! its sequence, what its given bytes pass as.
 
 use std::cmp::Ordering;
 
 use crate::cluster::{Answer, Call, Cluster, Limits, Refusal, Reply, Request, Shape};
 use crate::cluster::{BOOKING, GATE, HELD};
 use crate::fate::{Fate, Left};
+use crate::medium::{self, be64, SLOT_BYTES};
+use crate::old;
 use crate::tries::clients::needed_mark;
 
 pub const FATES: [&str; 6] = ["answered", "lost", "answer lost", "cut old", "cut new", "cut torn"];
@@ -31,6 +34,12 @@ pub const ENDS: [&str; 4] = ["empty", "acknowledged", "both", "own"];
 /// Why nothing that is held follows a member's mark: the next ID is not above the starting mark, or it is
 /// issued − 8 or less, or above issued; or more than one of these.
 pub const UNSENT: [&str; 4] = ["starting", "too old", "not issued", "several"];
+
+/// The sequence of a request that was granted, around what 32 bits hold.
+pub const SEQUENCES: [&str; 6] = ["0", "< 2^32 - 1", "2^32 - 1", "2^32", "> 2^32", "2^64 - 1"];
+
+/// What the given bytes of a torn write pass as. The first two are declined by 6.
+pub const GIVEN: [&str; 5] = ["slot", "place", "above N", "old place", "nothing"];
 
 pub fn fate_of(call: &Call) -> Option<Fate> {
     match call {
@@ -154,5 +163,46 @@ pub fn unsent_name(cluster: &Cluster, call: &Call, reply: &Reply) -> Option<&'st
         [false, true, false] => "too old",
         [false, false, true] => "not issued",
         _ => "several",
+    })
+}
+
+/// `None` unless the request is granted.
+pub fn sequence_name(call: &Call, reply: &Reply) -> Option<&'static str> {
+    let (Call::Issue { request, .. }, Ok(_)) = (call, reply) else {
+        return None;
+    };
+    const EDGE: u64 = 1 << 32;
+    const BELOW: u64 = EDGE - 1;
+    Some(match request.sequence {
+        0 => "0",
+        BELOW => "2^32 - 1",
+        EDGE => "2^32",
+        u64::MAX => "2^64 - 1",
+        other if other < EDGE => "< 2^32 - 1",
+        _ => "> 2^32",
+    })
+}
+
+/// `None` unless a write is to be torn.
+pub fn given_name(cluster: &Cluster, call: &Call) -> Option<&'static str> {
+    let given = match call {
+        Call::Prepare { message, .. }
+        | Call::Copy { message, .. }
+        | Call::Trim { message, .. }
+        | Call::Send { message, .. }
+        | Call::Note { message, .. }
+        | Call::Read { message, .. }
+        | Call::Export { message, .. } => {
+            matches!(message.fate, Fate::Cut(_, Left::Torn)).then_some(message.given)?
+        }
+        _ => return None,
+    };
+    let id = be64(&given, 0);
+    Some(match medium::is_place(id, &given) {
+        _ if medium::Slot::decode(&given[..SLOT_BYTES]).is_some() => "slot",
+        true if (1..=cluster.shape.places).contains(&id) => "place",
+        true => "above N",
+        false if old::decode(id, &given[..old::PLACE_BYTES]).is_some() => "old place",
+        false => "nothing",
     })
 }

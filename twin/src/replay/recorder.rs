@@ -12,7 +12,7 @@ use crate::segment::Pair;
 use crate::tries::scene::UNWRITTEN;
 
 /// What the program holds of media and lock tables, which is more than it lends.
-const MEDIA: usize = 7168;
+const MEDIA: usize = 8008;
 const TABLES: usize = 4100;
 
 /// What it holds for each file of an export.

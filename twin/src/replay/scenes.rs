@@ -4,7 +4,7 @@
 use std::ops::RangeInclusive;
 
 use super::recorder::Recorder;
-use super::{export_scenes, limits, locks};
+use super::{export_scenes, limits, locks, sequences};
 use crate::cluster::{Call, Entry, Message, Standing};
 use crate::fate::{Fate, Left};
 use crate::medium::{
@@ -24,6 +24,7 @@ pub fn replay(recorder: &mut Recorder, random: &mut Random) {
         with_each_fault(recorder, &scene);
         with_two_faults(recorder, random, &scene);
         particular(recorder, random, &scene);
+        sequences::replay(recorder, &scene);
     }
 }
 
@@ -129,7 +130,7 @@ fn cut_each(
     writes: RangeInclusive<u64>,
 ) {
     for fate in cuts(writes) {
-        let given = random.bytes(PLACE_BYTES).try_into().expect("64 bytes");
+        let given = random.bytes(PLACE_BYTES).try_into().expect("a place");
         truncation(recorder, scene, Message { fate, given });
     }
 }

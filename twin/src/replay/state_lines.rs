@@ -56,7 +56,7 @@ fn entry_lines(word: &str, server: &[u64], old: &[Entry], new: &[Entry]) -> Vec<
     entries.map(|(replica, (_, entry))| line(word, &fields(replica, entry))).collect()
 }
 
-/// A line for each piece of 64 bytes that has a difference, from its first to its last one.
+/// A line for each piece of 72 bytes that has a difference, from its first to its last one.
 pub fn media_lines(old: &[u8], new: &[u8]) -> Vec<String> {
     let mut lines = Vec::new();
     for start in (0..new.len()).step_by(PLACE_BYTES) {

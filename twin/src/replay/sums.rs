@@ -29,7 +29,7 @@ fn record_bytes(records: &Records) -> Vec<u8> {
     bytes
 }
 
-/// The 64 bytes of each held record, the oldest first, stand behind the numbers as they are.
+/// The bytes of each held record, the oldest first, stand behind the numbers as they are.
 fn put_server(bytes: &mut Vec<u8>, server: &Server) {
     put(bytes, &server_numbers(server));
     server.entries.iter().for_each(|entry| put(bytes, &entry_numbers(entry)));

@@ -56,8 +56,9 @@ pub fn word(call: &Call) -> &'static str {
 
 fn request_numbers(server: u64, request: &Request) -> Vec<u64> {
     let Request { client, generation, partition, sequence, header, .. } = *request;
-    let words = [client, generation, partition, sequence, header];
-    [server, request.client_mark].into_iter().chain(words.map(u64::from)).collect()
+    let [client, generation, partition, header] =
+        [client, generation, partition, header].map(u64::from);
+    vec![server, request.client_mark, client, generation, partition, sequence, header]
 }
 
 fn with_fate(numbers: &[u64], fate: Fate) -> Vec<u64> {

@@ -4,17 +4,17 @@
 use crate::crc::crc32;
 use crate::medium::{be32, be64, put, Record, DATA_LIMIT};
 
-/// ID (8), client, generation, partition, sequence, header, length, data check (4 each), data, record
-/// check (4).
+/// ID (8), client, generation, partition (4 each), sequence (8), header, length, data check (4 each),
+/// data, record check (4). A place's zeros are not in the files.
 const ID_AT: usize = 0;
 const CLIENT_AT: usize = 8;
 const GENERATION_AT: usize = 12;
 const PARTITION_AT: usize = 16;
 const SEQUENCE_AT: usize = 20;
-const HEADER_AT: usize = 24;
-pub const LENGTH_AT: usize = 28;
-const DATA_CHECK_AT: usize = 32;
-const DATA_AT: usize = 36;
+const HEADER_AT: usize = 28;
+pub const LENGTH_AT: usize = 32;
+const DATA_CHECK_AT: usize = 36;
+const DATA_AT: usize = 40;
 const CHECK_BYTES: usize = 4;
 
 /// What a record has beside its data.
@@ -61,7 +61,7 @@ pub fn record_at(file: &[u8], at: usize, number: u64) -> Option<(Record<'_>, usi
         client: be32(checked, CLIENT_AT),
         generation: be32(checked, GENERATION_AT),
         partition: be32(checked, PARTITION_AT),
-        sequence: be32(checked, SEQUENCE_AT),
+        sequence: be64(checked, SEQUENCE_AT),
         header: be32(checked, HEADER_AT),
         data,
     };

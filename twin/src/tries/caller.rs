@@ -3,6 +3,7 @@
 use super::clients::draw_mark;
 use super::exports::draw_export;
 use super::limits::{draw_client, draw_count, draw_data};
+use super::records::draw_sequence;
 use crate::cluster::{Call, Cluster, Message, Phase, Request, Server, Standing};
 use crate::fate::{Fate, Left};
 use crate::medium::{Slot, PLACE_BYTES};
@@ -197,6 +198,7 @@ fn draw_request(random: &mut Random, cluster: &Cluster, server: u64) -> Request 
         client_mark: if ahead { record.acknowledged + 1 } else { around },
         client,
         generation: record.generation + u32::from(random.chance(40)),
+        sequence: draw_sequence(random),
         header: random.below(3) as u32,
         data,
         locks,

@@ -7,8 +7,8 @@ use crate::medium::{mark, place_at, put, PLACE_BYTES, SLOTS_BYTES, WIPED};
 
 use super::scene::Kind::{self, *};
 use super::scene::{
-    record_bytes, set_place, set_promise, set_tables, Scene, CLIENT_MARK, EXACT, PLACES, REPLICA,
-    SERVER, SESSION, SOURCE,
+    exact_of, record_bytes, set_place, set_promise, set_tables, Scene, CLIENT_MARK, EXACT, PLACES,
+    REPLICA, SERVER, SESSION, SOURCE,
 };
 
 pub struct Fault {
@@ -179,9 +179,9 @@ fn fates() -> Vec<Fault> {
             scene.set_message(Message::new(Fate::Cut(0, Left::Old)))
         }),
         fault(6, "torn bytes pass as a slot", TO_REPLICA, |scene| {
-            let mut medium = [0; SLOTS_BYTES];
-            set_promise(&mut medium, 7);
-            tear(scene, 1, medium)
+            let mut given = WIPED;
+            set_promise(&mut given, 7);
+            tear(scene, 1, given)
         }),
         fault(6, "torn bytes pass as place N", TO_REPLICA, |scene| {
             tear(scene, u64::MAX, record_bytes(PLACES))
@@ -333,7 +333,12 @@ fn files() -> Vec<Fault> {
         other_files("index one byte short", |scene| scene.lend([DATA, INDEX - 1])),
         other_files("index one byte long", |scene| scene.lend([DATA, INDEX + 1])),
         other_files("no index", |scene| scene.lend([DATA, 0])),
-        other_files("files swapped", |scene| scene.lend([INDEX, DATA])),
+        // Two records, so that the data file's length is one that an index file may be lent at.
+        other_files("files swapped", |scene| {
+            scene.cluster.records.servers[SERVER].acknowledged = 2;
+            let [data, index] = exact_of(2);
+            scene.lend([index, data])
+        }),
     ]
 }
 

@@ -1,8 +1,9 @@
 //! What import answers: pairs and media that fit, and those that do not, in one way or two.
 
-use super::imports::{example, plain, Import, SECOND_AT, STAMP};
+use super::imports::{example, Import, SECOND_AT, STAMP};
+use super::records::TOPS;
 use crate::crc::crc32;
-use crate::medium::{medium_bytes, put, seal, Record, SLOTS_BYTES};
+use crate::medium::{medium_bytes, put, seal, SLOTS_BYTES};
 use crate::segment::{Stamp, FRAME_BYTES, HEADER_BYTES, LENGTH_AT};
 
 /// An import, what is the matter with it, and the number that it gives, if any.
@@ -25,26 +26,18 @@ fn fitting() -> Vec<Row> {
     let fits = |name: &'static str, import: Import| Row { name, import, number: None };
     let whole = example();
     let slots = whole.with(|import| import.medium[..SLOTS_BYTES].fill(0xAA));
-    let tops = Record {
-        client: u32::MAX,
-        generation: u32::MAX,
-        partition: u32::MAX,
-        sequence: u32::MAX,
-        header: u32::MAX,
-        ..plain(1, &[0xFF; 28])
-    };
     vec![
         fits("whole", whole),
         fits("whole, slots all AA", slots),
         fits("two bare headers", Import::whole(2, STAMP, &[])),
-        fits("fields at their tops", Import::whole(1, STAMP, &[tops])),
+        fits("fields at their tops", Import::whole(1, STAMP, &[TOPS])),
         fits("time 0 and key 0", Import::whole(1, Stamp::default(), &[])),
     ]
 }
 
 fn lengths() -> Vec<Row> {
     vec![
-        row("medium a byte short", 1, |import| import.medium.truncate(191)),
+        row("medium a byte short", 1, |import| import.medium.truncate(medium_bytes(2) - 1)),
         row("medium a byte long", 1, |import| import.medium.push(0)),
         row("no medium", 1, |import| import.medium.clear()),
         row("index of 135 bytes", 1, |import| import.pair.index.truncate(135)),
@@ -53,12 +46,12 @@ fn lengths() -> Vec<Row> {
         other_places("N = 0, medium of two slots", 0, SLOTS_BYTES),
         other_places("N = 1,000", 1000, medium_bytes(1)),
         other_places("N = 1,001", 1001, medium_bytes(1)),
-        other_places("N = 2^58, medium of two slots", 1 << 58, SLOTS_BYTES),
+        other_places("N = 2^61, medium of two slots", 1 << 61, SLOTS_BYTES),
         other_places("N at its top, no medium", u64::MAX, 0),
     ]
 }
 
-/// Two bare headers, and an N that does not go with the medium, or would if 64 + 64 × N wrapped.
+/// Two bare headers, and an N that does not go with the medium, or would if 64 + 72 × N wrapped.
 fn other_places(name: &'static str, places: u64, length: usize) -> Row {
     let (medium, stamp) = (vec![0; length], STAMP);
     let pair = Import::whole(1, STAMP, &[]).pair;
@@ -74,10 +67,11 @@ fn starts() -> Vec<Row> {
         row("data of 127 bytes", 24, |import| import.pair.data.truncate(127)),
         row("other time", 24, |import| import.stamp.time += 1),
         row("other key", 24, |import| import.stamp.key[15] ^= 1),
-        row("version 2 in both headers", 24, |import| import.set_headers(3, &[2])),
+        row("version 1 in both headers", 24, |import| import.set_headers(3, &[1])),
+        row("version 3 in both headers", 24, |import| import.set_headers(3, &[3])),
         row("partition 5 in both headers", 24, |import| import.set_headers(31, &[5])),
         row("first ID 0 in both headers", 24, |import| import.set_headers(39, &[0])),
-        row("last byte of place 2", 24, |import| import.medium[191] = 1),
+        row("last byte of place 2", 24, |import| import.medium[medium_bytes(2) - 1] = 1),
         row("first offset 129, place not wiped", 24, |import| {
             import.set_offset(1, 129);
             import.medium[100] = 1

@@ -64,13 +64,13 @@ pub const STAMP: Stamp = Stamp {
     key: 0x0011_2233_4455_6677_8899_AABB_CCDD_EEFF_u128.to_be_bytes(),
 };
 
-/// The first record of the examples.
+/// The first record of the examples; 32 bits do not hold its sequence.
 pub const RECORD: Record = Record {
     id: 1,
     client: 258,
     generation: 0,
     partition: 5,
-    sequence: 77,
+    sequence: (1 << 32) + 77,
     header: 9,
     data: &[0x41, 0x42, 0x43, 0x44],
 };

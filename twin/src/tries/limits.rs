@@ -45,7 +45,7 @@ impl Wish {
             client: self.client,
             generation: other,
             partition: other,
-            sequence: other,
+            sequence: mark,
             header: other,
             data: (1..=self.data as u8).collect(),
             locks: (1..=self.locks as u64).collect(),

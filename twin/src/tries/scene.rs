@@ -20,11 +20,18 @@ pub const SOURCE: usize = 2;
 
 /// The records that export's scene has to write, and the exact lengths of its files.
 pub const EXPORTED: usize = 4;
-pub const EXACT: [usize; 2] =
-    [HEADER_BYTES + EXPORTED * (FRAME_BYTES + DATA.len()), HEADER_BYTES + EXPORTED * OFFSET_BYTES];
+pub const EXACT: [usize; 2] = exact_of(EXPORTED);
+
+/// The exact lengths for so many of its records.
+pub const fn exact_of(records: usize) -> [usize; 2] {
+    [HEADER_BYTES + records * (FRAME_BYTES + DATA.len()), HEADER_BYTES + records * OFFSET_BYTES]
+}
 
 /// What the files hold before they are written.
 pub const UNWRITTEN: u8 = 0xAA;
+
+/// The sequence of every record and of issue's requests: more than 32 bits hold.
+const SEQUENCE: u64 = (1 << 32) + 4;
 
 /// The data of every record.
 const DATA: &[u8] = b"six";
@@ -159,8 +166,8 @@ pub fn set_tables(cluster: &mut Cluster, own: u64, others: u64) {
 }
 
 pub fn record_bytes(id: u64) -> PlaceBytes {
-    let (client, generation, partition, sequence, header) = (1, 2, 3, 4, 5);
-    Record { id, client, generation, partition, sequence, header, data: DATA }.encode()
+    let (client, generation, partition, header) = (1, 2, 3, 5);
+    Record { id, client, generation, partition, sequence: SEQUENCE, header, data: DATA }.encode()
 }
 
 /// What a server holds that has issued so much: record n is that of place n. Where there is none
@@ -219,6 +226,7 @@ fn request(client: u32, data: usize, locks: u64) -> Request {
         client_mark: CLIENT_MARK,
         client,
         generation: GENERATION,
+        sequence: SEQUENCE,
         data: vec![1; data],
         locks: (1..=locks).collect(),
         ..Request::default()

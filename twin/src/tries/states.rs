@@ -3,6 +3,7 @@
 use super::clients::draw_mark;
 use super::exports::draw_export;
 use super::limits::{draw_client, draw_count, draw_data};
+use super::records::draw_sequence;
 use super::scene::record_bytes;
 use crate::cluster::{
     Call, Cluster, Entry, Message, Phase, Request, Server, Shape, Standing, HELD, SERVERS,
@@ -171,6 +172,7 @@ impl Draw<'_> {
             client_mark: if self.random.chance(3) { self.mark() } else { around },
             client,
             generation: u32::from(self.random.chance(9)),
+            sequence: draw_sequence(self.random),
             data,
             locks,
             ..Request::default()

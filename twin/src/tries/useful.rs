@@ -5,6 +5,7 @@ use super::caller::{is_spent, Caller};
 use super::clients::draw_mark;
 use super::exports::draw_export;
 use super::limits::{draw_client, draw_count, draw_data};
+use super::records::draw_sequence;
 use crate::cluster::{Call, Cluster, Phase, Request, Server, Standing, HELD};
 use crate::random::Random;
 use crate::votes;
@@ -213,7 +214,7 @@ impl Useful<'_> {
             client,
             generation: self.record.generation,
             partition: random.below(4) as u32,
-            sequence: random.below(9) as u32,
+            sequence: draw_sequence(random),
             header: random.word(),
             data,
             locks,

@@ -9,7 +9,7 @@ use crate::replica::{Found, Operation};
 use crate::segment::{self, Pair};
 
 /// The longest line that may fit a form, without its newline.
-pub const LINE_LIMIT: usize = 2000;
+pub const LINE_LIMIT: usize = 130_000;
 
 /// The answers to all lines of `input`, a line each.
 pub fn output(input: &str) -> String {
@@ -61,7 +61,8 @@ fn slot(fields: &mut Fields) -> Option<String> {
 
 fn record(fields: &mut Fields) -> Option<String> {
     let id = fields.number()?;
-    let [client, generation, partition, sequence, header] = fields.words()?;
+    let [client, generation, partition] = [fields.word()?, fields.word()?, fields.word()?];
+    let (sequence, header) = (fields.number()?, fields.word()?);
     let data = &fields.bytes().filter(|data| data.len() <= DATA_LIMIT)?;
     let record = Record { id, client, generation, partition, sequence, header, data };
     Some(hex::encode(&record.encode()))

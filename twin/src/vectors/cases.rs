@@ -1,7 +1,8 @@
 //! The list of vectors: fixed cases around every rule of the storage layer, filled with bytes from
 //! a fixed seed.
 
-use super::{gates, segments, LINE_LIMIT, PUBLISHED};
+use super::texts::{place_line, record_line};
+use super::{gates, segments, sequences, LINE_LIMIT, PUBLISHED};
 use crate::crc::crc32;
 use crate::hex;
 use crate::medium::{
@@ -10,6 +11,8 @@ use crate::medium::{
 };
 use crate::random::Random;
 use crate::replica::{Found, Operation};
+use crate::tries::imports::plain;
+use crate::tries::records::{draw_record, TOPS};
 
 const SEED: u64 = 2004;
 
@@ -29,7 +32,7 @@ pub fn input() -> String {
         cases.line(line);
     }
     cases.log_ends();
-    gates::lines().into_iter().for_each(|line| cases.line(line));
+    sequences::lines().into_iter().chain(gates::lines()).for_each(|line| cases.line(line));
     cases.lines
 }
 
@@ -68,16 +71,13 @@ impl Cases {
     fn records(&mut self) {
         for length in 0..=DATA_LIMIT {
             let id = self.random.number() >> (length * 2);
-            let words = [(); 5].map(|_| self.random.word());
-            self.record(id, words, length);
+            let data = self.random.bytes(length);
+            let record = draw_record(&mut self.random, id, &data);
+            self.line(record_line(&record));
         }
-        self.record(0, [0; 5], 0);
-        self.record(u64::MAX, [u32::MAX; 5], DATA_LIMIT);
-        for field in 0..5 {
-            let mut words = [0; 5];
-            words[field] = u32::MAX - field as u32;
-            self.record(1 << (12 * field), words, field);
-        }
+        self.line(record_line(&plain(0, &[])));
+        self.line(record_line(&Record { id: u64::MAX, ..TOPS }));
+        self.fields_alone();
         for [promise, low, local] in [[0, 0, 0], [1, 2, 3], [u64::MAX; 3], [u64::MAX, 0, 1 << 63]] {
             self.line(format!("slotof\t{promise}\t{low}\t{local}"));
         }
@@ -87,12 +87,17 @@ impl Cases {
         }
     }
 
-    fn record(&mut self, id: u64, words: [u32; 5], length: usize) {
-        let [client, generation, partition, sequence, header] = words;
-        let data = hex::encode(&self.random.bytes(length));
-        self.line(format!(
-            "record\t{id}\t{client}\t{generation}\t{partition}\t{sequence}\t{header}\t{data}"
-        ));
+    /// Each field near its top, with the others 0.
+    fn fields_alone(&mut self) {
+        let data = self.random.bytes(4);
+        let records = [
+            Record { client: u32::MAX, ..plain(1, &[]) },
+            Record { generation: u32::MAX - 1, ..plain(1 << 12, &data[..1]) },
+            Record { partition: u32::MAX - 2, ..plain(1 << 24, &data[..2]) },
+            Record { sequence: u64::MAX - 3, ..plain(1 << 36, &data[..3]) },
+            Record { header: u32::MAX - 4, ..plain(1 << 48, &data) },
+        ];
+        records.iter().for_each(|record| self.line(record_line(record)));
     }
 
     fn places(&mut self) {
@@ -110,7 +115,7 @@ impl Cases {
     }
 
     fn place(&mut self, number: u64, bytes: PlaceBytes) {
-        self.line(format!("place\t{number}\t{}", hex::encode(&bytes)));
+        self.line(place_line(number, &bytes));
     }
 
     /// IDs that differ from the place's number, also in their upper bytes alone.
@@ -161,7 +166,7 @@ impl Cases {
         }
     }
 
-    /// Checks that are not those of the 60 bytes before, though near them.
+    /// Checks that are not those of the 68 bytes before, though near them.
     fn wrong_place_checks(&mut self) {
         let bytes = self.valid_place(9);
         for check in near_checks(&bytes) {
@@ -370,7 +375,7 @@ impl Cases {
 /// Bytes to build lines from.
 impl Cases {
     fn any_bytes(&mut self) -> PlaceBytes {
-        self.random.bytes(PLACE_BYTES).try_into().expect("64 bytes")
+        self.random.bytes(PLACE_BYTES).try_into().expect("a place")
     }
 
     fn some_slot(&mut self) -> Slot {
@@ -385,9 +390,8 @@ impl Cases {
     }
 
     fn valid_place_of(&mut self, id: u64, length: usize) -> PlaceBytes {
-        let [client, generation, partition, sequence, header] = [(); 5].map(|_| self.random.word());
-        let data = &self.random.bytes(length);
-        Record { id, client, generation, partition, sequence, header, data }.encode()
+        let data = self.random.bytes(length);
+        draw_record(&mut self.random, id, &data).encode()
     }
 }
 

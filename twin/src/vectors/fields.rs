@@ -32,12 +32,8 @@ impl<'a> Fields<'a> {
     }
 
     /// A number of 32 bits.
-    fn word(&mut self) -> Option<u32> {
+    pub fn word(&mut self) -> Option<u32> {
         self.number()?.try_into().ok()
-    }
-
-    pub fn words(&mut self) -> Option<[u32; 5]> {
-        Some([self.word()?, self.word()?, self.word()?, self.word()?, self.word()?])
     }
 
     pub fn bytes(&mut self) -> Option<Vec<u8>> {

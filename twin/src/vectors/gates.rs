@@ -2,6 +2,7 @@
 //! no limit but a place's, whoever the client is.
 
 use super::segments::{import_line, pair_line};
+use super::texts::{place_line, record_line};
 use crate::hex;
 use crate::medium::{medium_bytes, place_at, put, Record, Slot, DATA_LIMIT};
 use crate::tries::imports::{plain, Import, STAMP};
@@ -14,7 +15,8 @@ const DATA: [u8; DATA_LIMIT] = [0xC3; DATA_LIMIT];
 pub fn lines() -> Vec<String> {
     let records =
         [Record { client: 99, ..plain(1, &DATA[..13]) }, Record { client: 0, ..plain(2, &DATA) }];
-    let mut lines: Vec<String> = records.iter().flat_map(|it| [record(it), place(it)]).collect();
+    let lines = |it: &Record| [record_line(it), place_line(it.id, &it.encode())];
+    let mut lines: Vec<String> = records.iter().flat_map(lines).collect();
     let mut medium = vec![0; medium_bytes(records.len())];
     put(&mut medium, 0, &Slot::default().encode());
     records.iter().for_each(|it| put(&mut medium, place_at(it.id), &it.encode()));
@@ -22,14 +24,4 @@ pub fn lines() -> Vec<String> {
     lines.push(pair_line(STAMP, &medium));
     lines.push(import_line(&Import::whole(2, STAMP, &records)));
     lines
-}
-
-fn record(record: &Record) -> String {
-    let Record { id, client, generation, partition, sequence, header, data } = *record;
-    let data = hex::encode(data);
-    format!("record\t{id}\t{client}\t{generation}\t{partition}\t{sequence}\t{header}\t{data}")
-}
-
-fn place(record: &Record) -> String {
-    format!("place\t{}\t{}", record.id, hex::encode(&record.encode()))
 }

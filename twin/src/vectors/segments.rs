@@ -9,6 +9,7 @@ use crate::segment::{Pair, Stamp, HEADER_BYTES};
 use crate::tries::exports::draw_stamp;
 use crate::tries::import_rows::rows;
 use crate::tries::imports::{Import, RECORD, STAMP};
+use crate::tries::records::{draw_record, TOPS};
 
 /// Every line.
 pub fn lines(random: &mut Random) -> Vec<String> {
@@ -40,12 +41,7 @@ pub fn import_line(import: &Import) -> String {
 /// A record with any fields and so much data.
 fn place(random: &mut Random, id: u64, length: usize) -> [u8; PLACE_BYTES] {
     let data = &random.bytes(length);
-    any_record(random, id, data).encode()
-}
-
-fn any_record<'a>(random: &mut Random, id: u64, data: &'a [u8]) -> Record<'a> {
-    let [client, generation, partition, sequence, header] = [(); 5].map(|_| random.word());
-    Record { id, client, generation, partition, sequence, header, data }
+    draw_record(random, id, data).encode()
 }
 
 /// A medium of so many places with records of these lengths of data from place 1 on.
@@ -80,7 +76,7 @@ fn pairs(random: &mut Random) -> Vec<String> {
         lines.push(pair_line(draw_stamp(random), &medium));
     }
     lines.push(pair_line(STAMP, &with_record(RECORD)));
-    lines.push(pair_line(Stamp { time: u64::MAX, key: [0xFF; 16] }, &with_record(tops())));
+    lines.push(pair_line(Stamp { time: u64::MAX, key: [0xFF; 16] }, &with_record(TOPS)));
     lines.extend(short_logs(random));
     lines
 }
@@ -105,12 +101,6 @@ fn with_record(record: Record) -> Vec<u8> {
     medium
 }
 
-/// All fields at their tops.
-fn tops() -> Record<'static> {
-    let [client, generation, partition, sequence, header] = [u32::MAX; 5];
-    Record { id: 1, client, generation, partition, sequence, header, data: &[0xFF; DATA_LIMIT] }
-}
-
 /// Pairs of up to four records, into media with and without places to spare; and no bytes at all.
 fn whole_imports(random: &mut Random) -> Vec<String> {
     let logs: [(u64, &[usize]); 7] = [
@@ -126,7 +116,7 @@ fn whole_imports(random: &mut Random) -> Vec<String> {
     for (places, lengths) in logs {
         let data: Vec<Vec<u8>> = lengths.iter().map(|&length| random.bytes(length)).collect();
         let records: Vec<Record> =
-            (1..).zip(&data).map(|(id, data)| any_record(random, id, data)).collect();
+            (1..).zip(&data).map(|(id, data)| draw_record(random, id, data)).collect();
         let mut import = Import::whole(places, draw_stamp(random), &records);
         let slots = random.bytes(SLOTS_BYTES);
         put(&mut import.medium, 0, &slots);

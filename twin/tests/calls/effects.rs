@@ -5,7 +5,9 @@ use twin::cluster::{
 };
 use twin::fate::{Fate, Left};
 use twin::locks::{lock_places, TABLE_MARKS};
-use twin::medium::{current, is_place, mark, place, place_at, put, Slot, SLOT_BYTES, WIPED};
+use twin::medium::{
+    current, is_place, mark, place, place_at, put, Slot, DATA_AT, PLACE_BYTES, SLOT_BYTES, WIPED,
+};
 use twin::tries::scene::*;
 
 const UNHEARD: [Fate; 3] = [Fate::Lost, Fate::AnswerLost, Fate::Cut(9, Left::Old)];
@@ -159,10 +161,10 @@ fn the_mark_after_an_append_is_counted_anew() {
     assert_eq!(record(&mut cluster).marks[REPLICA], 5);
 
     let mut cluster = cluster_for(Kind::Send);
-    record(&mut cluster).held[HELD - 2] = [7; 64];
+    record(&mut cluster).held[HELD - 2] = [7; PLACE_BYTES];
     assert_eq!(cluster.send(SERVER_NUMBER, REPLICA as u64, &answered()), Ok(Answer::Number(3)));
     assert_eq!(record(&mut cluster).marks[REPLICA], 3);
-    assert_eq!(place(cluster.medium(REPLICA), 4), [7; 64]);
+    assert_eq!(place(cluster.medium(REPLICA), 4), [7; PLACE_BYTES]);
 }
 
 #[test]
@@ -212,7 +214,7 @@ fn about_to_open() -> Cluster {
     server.entries[4] = Entry { session: 6, closing: Some(1) };
     server.standings[6] = Standing::In;
     server.marks[6] = 4;
-    server.held = std::array::from_fn(|index| [9 + index as u8; 64]);
+    server.held = std::array::from_fn(|index| [9 + index as u8; PLACE_BYTES]);
     cluster.locks.fill(1);
     cluster
 }
@@ -322,7 +324,7 @@ fn issue_holds_a_valid_record() {
     assert_eq!(record(&mut cluster).issued, 6);
     let [.., newest] = record(&mut cluster).held;
     assert!(is_place(6, &newest));
-    assert_eq!(newest[32], 0xAB);
+    assert_eq!(newest[DATA_AT], 0xAB);
 }
 
 #[test]

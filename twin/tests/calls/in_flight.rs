@@ -3,7 +3,7 @@
 use crate::answered::Answered;
 use twin::cluster::{Answer, Cluster, Message, Refusal, Server, Standing};
 use twin::fate::Fate;
-use twin::medium::{mark, place, Record, WIPED};
+use twin::medium::{mark, place, PlaceBytes, Record, PLACE_BYTES, WIPED};
 use twin::tries::faults::{faults_of, with_faults};
 use twin::tries::in_flight::{InFlight, PLACES};
 use twin::tries::scene::{
@@ -124,7 +124,7 @@ fn issue_declines_exactly_if_eight_or_more_are_unacknowledged() {
 }
 
 /// The record that the scene's issue makes under this ID.
-fn issued_bytes(id: u64) -> [u8; 64] {
+fn issued_bytes(id: u64) -> PlaceBytes {
     let (client, generation, partition, sequence, header) = (0, GENERATION, 0, 0, 0);
     let data = &[0xF1];
     Record { id, client, generation, partition, sequence, header, data }.encode()
@@ -174,7 +174,7 @@ fn what_is_issued_up_to_the_starting_mark_is_not_held() {
 fn what_is_held_is_written_as_it_is() {
     let mut spoilt = record_bytes(7);
     spoilt[40] ^= 1;
-    for held in [WIPED, [0xA5; 64], spoilt, record_bytes(6), record_bytes(8)] {
+    for held in [WIPED, [0xA5; PLACE_BYTES], spoilt, record_bytes(6), record_bytes(8)] {
         let mut scene = InFlight { starting: 2, issued: 12, acknowledged: 11, mark: 6 }.send();
         scene.cluster.records.servers[SERVER].held[2] = held;
         for _ in 0..2 {

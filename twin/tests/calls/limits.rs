@@ -60,9 +60,9 @@ fn check(wish: Wish) {
     let id = before.cluster.records.servers[SERVER].issued + 1;
     assert_eq!(reply, Ok(Answer::Number(id)), "{wish:?}");
     let Request { client, generation, partition, sequence, header, data, .. } = &request;
-    let [client, generation, partition, sequence, header] =
-        [client, generation, partition, sequence, header].map(|word| *word);
-    let record = Record { id, client, generation, partition, sequence, header, data };
+    let [client, generation, partition, header] =
+        [client, generation, partition, header].map(|word| *word);
+    let record = Record { id, client, generation, partition, sequence: *sequence, header, data };
     let held = scene.cluster.records.servers[SERVER].held;
     assert_eq!(Record::decode(id, &held[HELD - 1]), Some(record), "{wish:?}");
 }
@@ -102,7 +102,7 @@ type Set = fn(&mut Scene, u32);
 fn no_other_number_chooses_the_pair() {
     let others: [Set; 5] = [
         |scene, other| scene.request().partition = other,
-        |scene, other| scene.request().sequence = other,
+        |scene, other| scene.request().sequence = u64::from(other),
         |scene, other| scene.request().header = other,
         |scene, other| {
             scene.request().generation = other;

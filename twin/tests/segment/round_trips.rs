@@ -1,20 +1,19 @@
 //! Importing an export restores its places, and what an imported pair left is written out as that pair.
 
 use crate::words::draw_whole;
-use twin::medium::{self, mark, medium_bytes, place_at, put, Record, DATA_LIMIT, SLOTS_BYTES};
+use twin::medium::{self, mark, medium_bytes, place_at, put, DATA_LIMIT, SLOTS_BYTES};
 use twin::random::Random;
 use twin::segment::{import, lengths, written, Stamp};
 use twin::tries::exports::draw_stamp;
+use twin::tries::records::draw_record;
 
 /// A medium of so many places with this mark, any data and any fields; behind the mark any bytes.
 fn draw_medium(random: &mut Random, places: u64, mark: u64) -> Vec<u8> {
     let mut medium = medium::fresh(places as usize);
     for id in 1..=mark {
         let length = random.below(DATA_LIMIT as u64 + 1) as usize;
-        let [client, generation, partition, sequence, header] = [(); 5].map(|_| random.word());
-        let data = &random.bytes(length);
-        let record = Record { id, client, generation, partition, sequence, header, data };
-        put(&mut medium, place_at(id), &record.encode());
+        let data = random.bytes(length);
+        put(&mut medium, place_at(id), &draw_record(random, id, &data).encode());
     }
     let behind = place_at(mark + 1);
     let rest = random.bytes(medium.len() - behind);

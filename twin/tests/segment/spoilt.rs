@@ -57,7 +57,7 @@ fn each_bit_of_a_place_gives_24() {
 fn each_place_is_looked_at() {
     let whole = Import::whole(1000, STAMP, &[]);
     for place in (1..=1000).step_by(37).chain([999, 1000]) {
-        for at in [place_at(place), place_at(place) + 63] {
+        for at in [place_at(place), place_at(place) + 71] {
             assert_eq!(number(&whole.with(|import| import.medium[at] = 1)), Some(24));
         }
     }
@@ -71,11 +71,11 @@ fn each_bit_of_an_offset_gives_25_and_of_a_record_25_or_26() {
         assert_eq!(number(&import), Some(25), "bit {bit} of the index");
     }
     // A length field that is still up to 28 moves the second offset.
-    let length_field = 8 * (HEADER_BYTES + 28)..8 * (HEADER_BYTES + 32);
+    let length_field = 8 * (HEADER_BYTES + 32)..8 * (HEADER_BYTES + 36);
     for bit in 8 * HEADER_BYTES..8 * whole.pair.data.len() {
         let import = whole.with(|import| import.pair.data[bit / 8] ^= 1 << (bit % 8));
-        let moved = length_field.contains(&bit) && import.pair.data[HEADER_BYTES + 31] <= 28;
-        let moved = moved && import.pair.data[HEADER_BYTES + 28..][..3] == [0; 3];
+        let moved = length_field.contains(&bit) && import.pair.data[HEADER_BYTES + 35] <= 28;
+        let moved = moved && import.pair.data[HEADER_BYTES + 32..][..3] == [0; 3];
         let expected = if moved { 25 } else { 26 };
         assert_eq!(number(&import), Some(expected), "bit {bit} of the data");
     }
@@ -147,14 +147,14 @@ fn in_that_order_over_the_whole_pair() {
     let whole = import.clone();
     import.pair.data.push(0);
     import.set_offset(2, 7);
-    import.medium[191] = 1;
+    import.medium[207] = 1;
     import.pair.index.push(0);
     assert_eq!(number(&import), Some(1));
     import.pair.index.pop();
     assert_eq!(number(&import), Some(24));
-    import.medium[191] = 0;
+    import.medium[207] = 0;
     assert_eq!(number(&import), Some(25));
-    import.set_offset(2, 172);
+    import.set_offset(2, 176);
     assert_eq!(number(&import), Some(26));
     import.pair.data.pop();
     assert_eq!(number(&import), None);

@@ -10,6 +10,7 @@ use twin::segment::{Pair, Stamp};
 use twin::tries::exports::draw_stamp;
 use twin::tries::import_rows::rows;
 use twin::tries::imports::Import;
+use twin::tries::records::draw_record;
 
 /// The number that the sentence gives.
 pub fn by_the_words(import: &Import) -> Option<u64> {
@@ -30,7 +31,7 @@ pub fn by_the_words(import: &Import) -> Option<u64> {
 /// from 1 to 1,000.
 fn is_of_other_length(import: &Import) -> bool {
     let Import { places, medium, pair, .. } = import;
-    let exact = (1..=1000).contains(places) && medium.len() as u64 == 64 + 64 * places;
+    let exact = (1..=1000).contains(places) && medium.len() as u64 == 64 + 72 * places;
     let indexes = (0..=pair.index.len()).map(|offsets| 128 + 8 * offsets);
     !exact || !indexes.into_iter().any(|length| length == pair.index.len())
 }
@@ -46,10 +47,10 @@ fn starts_otherwise(import: &Import) -> bool {
         || offsets(import).len() as u64 > *places
 }
 
-/// "version 1, partition 0, first ID 1, time and cluster key handed in, and the rest zero", in 004's
+/// "version 2", "partition 0, first ID 1, time and cluster key handed in, and the rest zero", in 004's
 /// widths.
 fn header(stamp: Stamp) -> Vec<u8> {
-    let [version, partition] = [1u32, 0].map(u32::to_be_bytes);
+    let [version, partition] = [2u32, 0].map(u32::to_be_bytes);
     let [time, first] = [stamp.time, 1].map(u64::to_be_bytes);
     let mut header = [&version[..], &time, &stamp.key, &partition, &first].concat();
     header.extend([0; 88]);
@@ -65,11 +66,11 @@ fn offsets(import: &Import) -> Vec<u64> {
 /// a length field is above 28 or not wholly in the slice)". Lengths are read where the offsets say.
 fn has_wrong_offset(data: &[u8], offsets: &[u64]) -> bool {
     let length = |offset: u64| {
-        let at = usize::try_from(offset).ok()?.checked_add(28)?;
+        let at = usize::try_from(offset).ok()?.checked_add(32)?;
         let field = data.get(at..at.checked_add(4)?)?;
         Some(word(field)).filter(|&length| length <= 28)
     };
-    let read = offsets.iter().map_while(|&offset| Some(length(offset)? + 40 + offset));
+    let read = offsets.iter().map_while(|&offset| Some(length(offset)? + 44 + offset));
     let later = offsets.iter().skip(1);
     offsets.first().is_some_and(|&first| first != 128)
         || read.zip(later).any(|(next, &offset)| next != offset)
@@ -78,17 +79,17 @@ fn has_wrong_offset(data: &[u8], offsets: &[u64]) -> bool {
 /// "a record cut short, misnumbered, too long or failing a check, or bytes after the last".
 fn has_wrong_record(mut rest: &[u8], count: usize) -> bool {
     for number in 1..=count as u64 {
-        let Some(length) = rest.get(28..32).map(|field| word(field) as usize) else {
+        let Some(length) = rest.get(32..36).map(|field| word(field) as usize) else {
             return true;
         };
-        if length > 28 || rest.len() < 40 + length {
+        if length > 28 || rest.len() < 44 + length {
             return true;
         }
-        let (record, behind) = rest.split_at(40 + length);
-        let data = &record[36..36 + length];
+        let (record, behind) = rest.split_at(44 + length);
+        let data = &record[40..40 + length];
         let fields = [number.to_be_bytes().to_vec(), bitwise(data).to_be_bytes().to_vec()];
-        let check = bitwise(&record[..36 + length]).to_be_bytes();
-        if record[..8] != fields[0] || record[32..36] != fields[1] || record[36 + length..] != check
+        let check = bitwise(&record[..40 + length]).to_be_bytes();
+        if record[..8] != fields[0] || record[36..40] != fields[1] || record[40 + length..] != check
         {
             return true;
         }
@@ -118,13 +119,8 @@ pub fn draw_whole(random: &mut Random) -> Import {
             random.bytes(length)
         })
         .collect();
-    let records: Vec<Record> = (1..)
-        .zip(&data)
-        .map(|(id, data)| {
-            let [client, generation, partition, sequence, header] = [(); 5].map(|_| random.word());
-            Record { id, client, generation, partition, sequence, header, data }
-        })
-        .collect();
+    let records: Vec<Record> =
+        (1..).zip(&data).map(|(id, data)| draw_record(random, id, data)).collect();
     let mut import = Import::whole(places, draw_stamp(random), &records);
     import.medium[..64].copy_from_slice(&random.bytes(64));
     import
@@ -166,7 +162,7 @@ fn flip(random: &mut Random, bytes: &mut [u8], from: usize) {
 
 /// A bit of the last record, whichever its beginning, and a record check that agrees.
 fn change_last(random: &mut Random, data: &mut [u8]) {
-    let size = *random.pick(&[40, 41, 50, 68]);
+    let size = *random.pick(&[44, 45, 54, 72]);
     if let Some(start) = data.len().checked_sub(size).filter(|&start| start >= 128) {
         flip(random, &mut data[start..], 0);
         seal(&mut data[start..]);

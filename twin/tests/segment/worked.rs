@@ -9,15 +9,15 @@ use twin::segment::{written, Pair};
 use twin::tries::imports::{example, Import, RECORD, STAMP};
 
 const PLACE: &str =
-    "0000000000000001 00000102 00000000 00000005 0000004d 00000009 00000004 41424344";
-const PLACE_CHECK: &str = "cc0131fb";
+    "0000000000000001 00000102 00000000 00000005 000000010000004d 00000009 00000004 41424344";
+const PLACE_CHECK: &str = "6598bc07";
 
 const HEADER: &str =
-    "00000001 0000018bcfe56800 00112233445566778899aabbccddeeff 00000000 0000000000000001";
-const ONE: &str = "0000000000000001 00000102 00000000 00000005 0000004d 00000009 00000004 db1720a5 41424344 81e5c446";
+    "00000002 0000018bcfe56800 00112233445566778899aabbccddeeff 00000000 0000000000000001";
+const ONE: &str = "0000000000000001 00000102 00000000 00000005 000000010000004d 00000009 00000004 db1720a5 41424344 a2e8e7d9";
 
-const DATA_SUM: &str = "cf7d50bdfe14f903b77421276aa190f2d649d60d4efa0b599520a3c977e6be45";
-const INDEX_SUM: &str = "0e9c02be679c61a0ec3f9c2e008ae8e17ab729c372fe7a8db8e0d41983440b61";
+const DATA_SUM: &str = "a727166556955bdce2f44e3b9ad92df3c26b29d3776945a75753ace7bdddba59";
+const INDEX_SUM: &str = "735700ec2727cf76928f160c98bfa4a9efecc8823f4dc80e9dd55e9aede47586";
 
 fn bytes(digits: &str) -> Vec<u8> {
     hex::decode(digits.replace(' ', "").as_bytes()).expect("pairs of digits")
@@ -67,7 +67,7 @@ fn export(cluster: &mut Cluster, lengths: [usize; 2], fate: Fate) -> (Reply, Pai
 
 #[test]
 fn the_place() {
-    let place_bytes = [bytes(PLACE), vec![0; 24], bytes(PLACE_CHECK)].concat();
+    let place_bytes = [bytes(PLACE), vec![0; 28], bytes(PLACE_CHECK)].concat();
     assert_eq!(place(cluster().medium(0), 1).to_vec(), place_bytes);
     assert_eq!(RECORD.encode().to_vec(), place_bytes);
 }
@@ -76,7 +76,7 @@ fn the_place() {
 fn the_pair() {
     let mut cluster = cluster();
     let before = cluster.clone();
-    let (reply, files) = export(&mut cluster, [172, 136], Fate::Answered);
+    let (reply, files) = export(&mut cluster, [176, 136], Fate::Answered);
     assert_eq!(reply, Ok(Answer::Nothing));
     assert_eq!(files, expected());
     assert_eq!(sha256(&files.data), DATA_SUM);
@@ -84,21 +84,21 @@ fn the_pair() {
     assert!(cluster == before, "an answered export changes nothing but the files");
 }
 
-/// A data slice of 171: no 1; with fate 2 silent, the slices untouched; then once more with 172: no 7.
+/// A data slice of 175: no 1; with fate 2 silent, the slices untouched; then once more with 176: no 7.
 #[test]
 fn a_byte_short() {
     let mut cluster = cluster();
-    let untouched = Pair::filled([171, 136], 0xAA);
+    let untouched = Pair::filled([175, 136], 0xAA);
     let before = cluster.clone();
     let declined = (Err(Refusal::OtherFiles), untouched.clone());
-    assert_eq!(export(&mut cluster, [171, 136], Fate::Answered), declined);
+    assert_eq!(export(&mut cluster, [175, 136], Fate::Answered), declined);
     assert_eq!(Refusal::OtherFiles.number(), 1);
     assert!(cluster == before);
     let silent = (Ok(Answer::Silent), untouched);
-    assert_eq!(export(&mut cluster, [171, 136], Fate::AnswerLost), silent);
-    let (reply, files) = export(&mut cluster, [172, 136], Fate::Answered);
+    assert_eq!(export(&mut cluster, [175, 136], Fate::AnswerLost), silent);
+    let (reply, files) = export(&mut cluster, [176, 136], Fate::Answered);
     assert_eq!(reply, Err(Refusal::ReplicaOut));
-    assert_eq!(files, Pair::filled([172, 136], 0xAA));
+    assert_eq!(files, Pair::filled([176, 136], 0xAA));
 }
 
 /// Two bare headers; the header names partition 0 and first ID 1 all the same.
@@ -114,17 +114,17 @@ fn an_empty_log() {
     assert_eq!(files, Pair { data: header(), index: header() });
 }
 
-/// The record and a second one: offsets 128 and 172.
+/// The record and a second one: offsets 128 and 176.
 #[test]
 fn two_records() {
     let Import { pair, .. } = example();
-    assert_eq!(pair.data[..172], expected().data);
-    assert_eq!(pair.index[128..], bytes("0000000000000080 00000000000000ac"));
-    let second = &pair.data[172..];
-    assert_eq!(second.len(), 40);
-    let fields = [&2u64.to_be_bytes()[..], &[0; 28]].concat();
-    assert_eq!(second[..36], fields);
-    assert_eq!(second[36..], twin::crc::bitwise(&fields).to_be_bytes());
+    assert_eq!(pair.data[..176], expected().data);
+    assert_eq!(pair.index[128..], bytes("0000000000000080 00000000000000b0"));
+    let second = &pair.data[176..];
+    assert_eq!(second.len(), 44);
+    let fields = [&2u64.to_be_bytes()[..], &[0; 32]].concat();
+    assert_eq!(second[..40], fields);
+    assert_eq!(second[40..], twin::crc::bitwise(&fields).to_be_bytes());
 }
 
 /// The whole pair restores both places and leaves the slots as they were.

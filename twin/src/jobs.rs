@@ -7,9 +7,11 @@ pub mod scan;
 mod stage;
 
 use crate::cluster::{Answer, Call, Cluster, Entry, HELD};
+use crate::convert;
 use crate::crc::crc32;
 use crate::fate::Fate;
-use crate::medium::{self, PLACE_BYTES};
+use crate::medium::{self, Record, PLACE_BYTES, SLOTS_BYTES};
+use crate::old;
 use crate::segment::{self, Pair, Stamp};
 use scan::mark_by_products;
 use stage::{filled, make, message, prepare_all};
@@ -33,6 +35,7 @@ fn answer(line: &str) -> Option<String> {
         "open" => open,
         "export" => export,
         "import" => import,
+        "convert" => convert,
         "issue" => issue,
         _ => return None,
     };
@@ -122,9 +125,30 @@ fn import(count: u64) -> u64 {
         let reply = segment::import(1000, &mut medium, stamp, &pair.data, &pair.index);
         assert_eq!(reply, Ok(()));
         let byte = medium[medium::place_at(1000) + 7];
-        medium[medium::SLOTS_BYTES..].fill(0);
+        medium[SLOTS_BYTES..].fill(0);
         u64::from(byte)
     })
+}
+
+/// One conversion of an old medium of 1,000 places. Its first byte becomes the number of turns left; the
+/// other slot stays valid and current. What counts is the first byte of the new medium and the lowest byte
+/// of the ID in place 1,000.
+fn convert(count: u64) -> u64 {
+    let mut old = old_medium(filled(1000).medium(0));
+    let mut new = vec![0; medium::medium_bytes(1000)];
+    total(count, |left| {
+        old[0] = left as u8;
+        let reply = convert::convert(&old, &mut new);
+        assert_eq!(reply, Ok(()));
+        u64::from(new[0]) + u64::from(new[medium::place_at(1000) + 7])
+    })
+}
+
+/// A full medium as the old layout had it.
+fn old_medium(full: &[u8]) -> Vec<u8> {
+    let mut medium = full[..SLOTS_BYTES].to_vec();
+    medium::places(full).for_each(|place| medium.extend(old::encode(&Record::of_valid(place))));
+    medium
 }
 
 /// One issue of 28 bytes without locks, behind 500 records that are all acknowledged. What counts is the

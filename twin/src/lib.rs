@@ -10,6 +10,8 @@ pub mod medium;
 pub mod old;
 pub mod segment;
 
+pub mod convert;
+
 pub mod replica;
 
 pub mod fate;

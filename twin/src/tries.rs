@@ -1,6 +1,6 @@
 //! Calls and states to try: lists of calls that get somewhere, scenes with faults, issue around the
 //! interval, around the client's mark and around its limits, send and issue around what is held, exports
-//! with files of any length, imports of pairs whole and spoilt, records with any fields, places near valid
+//! with files of any length, imports of pairs whole and spoilt, old media, records with any fields, places near valid
 //! ones, random states.
 
 pub mod caller;
@@ -12,6 +12,7 @@ pub mod import_rows;
 pub mod imports;
 pub mod in_flight;
 pub mod limits;
+pub mod old_media;
 pub mod records;
 pub mod scene;
 pub mod states;

@@ -29,11 +29,20 @@
 //! | pair | time, KEY, N, MEDIUM | its whole log written out: the data file's BYTES, the index file's |
 //! | import | N, time, KEY, BYTES of the medium, of the data file and of the index file | ok or no and the number; the check of the medium after it, 8 digits |
 //!
+//! The converter has one.
+//!
+//! | command | fields | answer |
+//! |---|---|---|
+//! | convert | BYTES of the old medium, length of the second slice, each byte of it before the call | ok or no and the number; the check of the second slice after it, 8 digits |
+//!
+//! The old medium has any bytes, also none; the length is at most 73,000 and the byte at most 255.
+//!
 //! A line has at most 130,000 bytes and the MEDIUM of at most 14 places; import takes any N and any bytes,
 //! also none. A line that fits no form is answered with bad.
 
 mod answers;
 mod cases;
+mod conversions;
 mod fields;
 mod gates;
 mod published;

@@ -19,13 +19,14 @@ const ROUNDS: usize = 5;
 /// A job, what it does, and how many turns: some tenths of a second, several times its set-up.
 type Job = (&'static str, &'static str, u64);
 
-const JOBS: [Job; 8] = [
+const JOBS: [Job; 9] = [
     MARKS,
     ("send", "one send to a replica that holds 999 of 1,000", 30_000),
     ("prepare", "one prepare that truncates 1,000 places to 500", 30_000),
     ("open", "one open of seven replicas at N = 1,000", 2_000_000),
     ("export", "export of 1,000 places", 10_000),
     ("import", "import of 1,000 places", 10_000),
+    ("convert", "conversion of 1,000 places", 10_000),
     ("issue", "one issue of 28 bytes, 500 of 1,000 issued", 2_000_000),
     CRC,
 ];

@@ -1,6 +1,8 @@
 //! What this implementation answers to a list of vectors.
 
+use super::conversions::LENGTH_LIMIT;
 use super::fields::Fields;
+use crate::convert;
 use crate::crc::crc32;
 use crate::fate::perform;
 use crate::hex;
@@ -32,6 +34,7 @@ fn answer(line: &str) -> Option<String> {
         "medium" => medium(&mut fields)?,
         "pair" => pair(&mut fields)?,
         "import" => import(&mut fields)?,
+        "convert" => convert(&mut fields)?,
         _ => operation(command, &mut fields)?,
     };
     fields.end()?;
@@ -96,11 +99,26 @@ fn import(fields: &mut Fields) -> Option<String> {
     let places = fields.number()?;
     let stamp = fields.stamp()?;
     let [mut medium, data, index] = [fields.bytes()?, fields.bytes()?, fields.bytes()?];
-    let reply = match segment::import(places, &mut medium, stamp, &data, &index) {
+    let reply = segment::import(places, &mut medium, stamp, &data, &index);
+    Some(with_check(reply.map_err(|unfit| unfit.number()), &medium))
+}
+
+fn convert(fields: &mut Fields) -> Option<String> {
+    let old = fields.bytes()?;
+    let length = fields.number().filter(|&length| length <= LENGTH_LIMIT)?;
+    let fill = u8::try_from(fields.number()?).ok()?;
+    let mut new = vec![fill; length as usize];
+    let reply = convert::convert(&old, &mut new);
+    Some(with_check(reply.map_err(|declined| declined.number()), &new))
+}
+
+/// ok, or no and the number; behind it the check of what was written.
+fn with_check(reply: Result<(), u64>, written: &[u8]) -> String {
+    let reply = match reply {
         Ok(()) => "ok".to_string(),
-        Err(unfit) => format!("no\t{}", unfit.number()),
+        Err(number) => format!("no\t{number}"),
     };
-    Some(format!("{reply}\t{:08X}", crc32(&medium)))
+    format!("{reply}\t{:08X}", crc32(written))
 }
 
 fn operation(command: &str, fields: &mut Fields) -> Option<String> {

@@ -4,6 +4,11 @@ mod stored;
 
 use std::collections::BTreeMap;
 
+use twin::crc::bitwise;
+use twin::hex;
+use twin::medium::Record;
+use twin::tries::imports::RECORD;
+use twin::tries::old_media::example;
 use twin::vectors;
 
 #[test]
@@ -54,6 +59,38 @@ fn imports_meet_every_answer() {
     assert!(counts["no 24"] > 3 * 128 && counts["no 1"] > 128);
 }
 
+/// Many of each: each byte of a place and of both slots, and each kind of length.
+#[test]
+fn conversions_meet_every_answer() {
+    let counts = answers("convert");
+    println!("{counts:?}");
+    let kinds: Vec<&str> = counts.keys().map(String::as_str).collect();
+    assert_eq!(kinds, ["bad", "no 27", "ok"]);
+    assert!(counts["ok"] > 150 && counts["no 27"] > 30 && counts["bad"] > 15);
+}
+
+/// The place and the new medium of the examples, byte for byte.
+#[test]
+fn the_worked_examples_are_among_the_lines() {
+    let place = "000000000000000100000102000000000000000500000001 0000004D000000090000000441424344";
+    let place = format!("{}{}6598BC07", place.replace(' ', ""), "00".repeat(28));
+    let input = vectors::input();
+    let answer = |line: &str| {
+        assert!(input.lines().any(|other| other == line), "{line}");
+        vectors::output(line).trim_end().to_string()
+    };
+    assert_eq!(answer("record\t1\t258\t0\t5\t4294967373\t9\t41424344"), place);
+    let read = "1\t1\t258\t0\t5\t4294967373\t9\t4\t41424344";
+    assert_eq!(answer(&format!("place\t1\t{place}")), read);
+    let mut new = example()[..64].to_vec();
+    new.extend(Record { sequence: 77, ..RECORD }.encode());
+    new.resize(64 + 72 * 3, 0);
+    let convert = format!("convert\t{}\t280\t170", hex::encode(&example()));
+    assert_eq!(answer(&convert), format!("ok\t{:08X}", bitwise(&new)));
+    let short = format!("convert\t{}\t280\t204", hex::encode(&example()[..255]));
+    assert_eq!(answer(&short), format!("no\t27\t{:08X}", bitwise(&[0xCC; 280])));
+}
+
 /// The last lines: two records of gates, one with 13 bytes of data and one with 28, are written, are
 /// valid and make a log; they come to a pair of files and back as any others do.
 #[test]
@@ -87,6 +124,7 @@ fn lines_that_fit_no_form_are_bad() {
     let empty = format!("import\t1\t7\t{key}\t\t\t");
     let log = format!("pair\t7\t{key}\t1\t{}", "00".repeat(136));
     assert!(fits(&empty) && fits(&log) && fits("crc\t"));
+    assert!(fits("convert\t\t73000\t255") && fits(&format!("crc\t{}", "0".repeat(129_996))));
     let spoilt = [
         format!("{empty}\t"),
         format!("{empty}0"),
@@ -100,7 +138,9 @@ fn lines_that_fit_no_form_are_bad() {
     ];
     let short =
         ["\n", "crc", "wait\t1", "crc\t0", "slotof\t1\t2", "slotof\t1\t+2\t3", "place\t1\t"];
-    for line in spoilt.iter().map(String::as_str).chain(short) {
+    let converts = ["\t\t73001\t0", "\t\t0\t256", "\t\t0", "\t\t0\t0\t", "\t0\t0\t0", ""];
+    let converts = converts.map(|rest| format!("convert{rest}"));
+    for line in spoilt.iter().chain(&converts).map(String::as_str).chain(short) {
         assert!(!fits(line), "{line:?}");
     }
 }

@@ -4,7 +4,7 @@ use crate::hex;
 use crate::medium::{medium_bytes, Slot, SlotBytes, SLOTS_BYTES};
 use crate::old;
 use crate::random::Random;
-use crate::tries::old_media::{old_media, Draw};
+use crate::tries::old_media::{example, old_media, Draw};
 
 /// The longest second slice of a line.
 pub const LENGTH_LIMIT: u64 = 73_000;
@@ -20,6 +20,7 @@ pub fn lines() -> Vec<String> {
     for (medium, fill) in old_media().iter().zip(FILLS.into_iter().cycle()) {
         lines.push(line(&medium.bytes, length_for(&medium.bytes), fill));
     }
+    lines.extend(examples());
     lines.extend(damaged_places());
     lines.extend(damaged_slots());
     lines.extend(other_lengths());
@@ -43,6 +44,19 @@ fn slots() -> [SlotBytes; 2] {
 
 fn medium(log: &str) -> Vec<u8> {
     Draw { random: Random::new(SEED) }.medium(slots(), log)
+}
+
+/// "Second slice 64 + 72 × 2, or both slots invalid, or the old one a byte short: 27."
+fn examples() -> [String; 3] {
+    let old = example();
+    let mut no_slot = old.clone();
+    no_slot[7] ^= 1;
+    let short = &old[..old.len() - 1];
+    [
+        line(&old, medium_bytes(2), 0xCC),
+        line(&no_slot, medium_bytes(3), 0xCC),
+        line(short, medium_bytes(3), 0xCC),
+    ]
 }
 
 /// One bit of each byte of the first of two valid places: both come out wiped.

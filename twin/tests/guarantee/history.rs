@@ -169,7 +169,7 @@ impl History {
     }
 
     /// In a place that is no longer valid nothing stands.
-    fn forget_invalid(&mut self, cluster: &Cluster) {
+    pub fn forget_invalid(&mut self, cluster: &Cluster) {
         for (replica, places) in self.standing.iter_mut().enumerate() {
             for (number, transaction) in (1..).zip(places) {
                 if !is_place(number, &place(cluster.medium(replica), number)) {

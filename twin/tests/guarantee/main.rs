@@ -1,7 +1,9 @@
 //! The guarantee between sessions, on long random lists of calls from fresh clusters: every fate, a
 //! cut at any write, old servers that go on talking, sessions that the interval ends, servers stopped
-//! or overtaken with records in flight, gates and booking clients, exports.
+//! or overtaken with records in flight, gates and booking clients, exports; and on lists whose media were
+//! converted on the way.
 
+mod conversions;
 mod exports;
 mod history;
 mod in_flight;
@@ -123,38 +125,64 @@ fn assert_within_interval(history: &History, interval: u64) {
 /// Makes a call.
 type Apply = fn(&mut Cluster, &mut Call) -> Reply;
 
-/// A list of calls from a fresh cluster, and what it brought about.
-fn run_list(random: &mut Random, apply: Apply, met: &mut Met) -> (Shape, History) {
-    let shape = draw_shape(random);
-    let mut cluster = Cluster::fresh(shape).expect("an allowed shape");
-    let mut history = History::new(shape.replicas as usize, shape.places as usize);
-    let mut due = BTreeSet::new();
-    let caller = Caller::new(random);
-    // Calls of one list in two are drawn; those of the others bring the cluster on.
-    let drawn = random.chance(2);
-    for _ in 0..CALLS {
-        let mut call = if drawn {
-            caller.next_call(random, &cluster)
-        } else {
-            useful::next_call(random, &caller, &cluster)
-        };
-        let (before, lent) = (cluster.clone(), call.clone());
-        let reply = apply(&mut cluster, &mut call);
-        if reply.is_err() {
-            assert!(cluster == before, "a declined call changes nothing: {call:?}");
-        }
-        exports::check(&history, &before, [&lent, &call], &reply, met);
-        met.count_call(&call, &reply, cluster.media != before.media);
-        met.count_writer(&history, &before, &call, &reply);
-        due.extend(due_session(&history, &before, &call, &reply));
-        met.in_flight.count_call(&before, &call, &reply);
-        met.clients.check(&before, &call, &reply, &cluster);
-        let newest = history.opened().keys().next_back().copied();
-        history.add(&before, &call, &reply, &cluster);
-        met.in_flight.count_open(&history, newest);
+/// A list of calls from a fresh cluster, and what it has brought about so far.
+struct List {
+    shape: Shape,
+    cluster: Cluster,
+    history: History,
+    /// Sessions that were declined with 23 while they were the newest.
+    due: BTreeSet<u64>,
+    caller: Caller,
+    /// Calls of one list in two are drawn; those of the others bring the cluster on.
+    drawn: bool,
+}
+
+impl List {
+    fn new(random: &mut Random) -> List {
+        let shape = draw_shape(random);
+        let cluster = Cluster::fresh(shape).expect("an allowed shape");
+        let history = History::new(shape.replicas as usize, shape.places as usize);
+        let caller = Caller::new(random);
+        let drawn = random.chance(2);
+        List { shape, cluster, history, due: BTreeSet::new(), caller, drawn }
     }
-    met.count_list(&history, &due);
-    (shape, history)
+
+    fn next_call(&self, random: &mut Random) -> Call {
+        if self.drawn {
+            self.caller.next_call(random, &self.cluster)
+        } else {
+            useful::next_call(random, &self.caller, &self.cluster)
+        }
+    }
+
+    fn call(&mut self, mut call: Call, apply: Apply, met: &mut Met) {
+        let List { cluster, history, due, .. } = self;
+        let (before, lent) = (cluster.clone(), call.clone());
+        let reply = apply(cluster, &mut call);
+        if reply.is_err() {
+            assert!(*cluster == before, "a declined call changes nothing: {call:?}");
+        }
+        exports::check(history, &before, [&lent, &call], &reply, met);
+        met.count_call(&call, &reply, cluster.media != before.media);
+        met.count_writer(history, &before, &call, &reply);
+        due.extend(due_session(history, &before, &call, &reply));
+        met.in_flight.count_call(&before, &call, &reply);
+        met.clients.check(&before, &call, &reply, cluster);
+        let newest = history.opened().keys().next_back().copied();
+        history.add(&before, &call, &reply, cluster);
+        met.in_flight.count_open(history, newest);
+    }
+}
+
+/// A whole list.
+fn run_list(random: &mut Random, apply: Apply, met: &mut Met) -> (Shape, History) {
+    let mut list = List::new(random);
+    for _ in 0..CALLS {
+        let call = list.next_call(random);
+        list.call(call, apply, met);
+    }
+    met.count_list(&list.history, &list.due);
+    (list.shape, list.history)
 }
 
 #[test]

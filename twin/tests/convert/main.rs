@@ -1,0 +1,8 @@
+//! The converter (document 02, No. 7).
+
+mod draw;
+mod files;
+mod rules;
+mod unread;
+mod words;
+mod worked;

@@ -23,8 +23,10 @@ const KEY_AT: usize = 12;
 const PARTITION_AT: usize = 28;
 const FIRST_AT: usize = 32;
 
-/// "partition 0, first ID 1", also for an empty log. The records keep their own partition.
+/// The only version that is written and read.
 const VERSION: u32 = 2;
+
+/// "partition 0, first ID 1", also for an empty log. The records keep their own partition.
 const PARTITION: u32 = 0;
 const FIRST: u64 = 1;
 

@@ -7,11 +7,12 @@ use super::scenes::try_scene;
 use crate::cluster::{Answer, Call, Message, Request, Shape};
 use crate::fate::{Fate, Left};
 use crate::medium::{place_at, put, PlaceBytes, Record};
+use crate::old;
 use crate::segment::Pair;
 use crate::tries::exports::exact_lengths;
 use crate::tries::imports::STAMP;
 use crate::tries::records::SEQUENCES;
-use crate::tries::scene::{record_bytes, Kind, Scene, PLACES, UNWRITTEN};
+use crate::tries::scene::{record_bytes, Kind, Scene, PLACES, REPLICA, SERVER, SESSION, UNWRITTEN};
 use crate::tries::unfit::{old_places, unfit_places, zeros_not_zero};
 
 /// A record for each sequence is stored on two replicas and read from both; the next session finds all of
@@ -71,13 +72,16 @@ fn long_data(recorder: &mut Recorder) {
 }
 
 /// What is worth trying of one call: places near valid ones on the medium that it reads, and given bytes
-/// near a place, which a torn write may leave.
+/// near a place, which a torn write may leave; and media of the old length.
 pub fn replay(recorder: &mut Recorder, scene: &Scene) {
     if matches!(scene.kind, Kind::Prepare | Kind::Read) {
         unfit_places(3).into_iter().for_each(|bytes| with_place(recorder, scene, 3, bytes));
     }
     if matches!(scene.kind, Kind::Prepare | Kind::OpenCopy | Kind::Trim | Kind::Send | Kind::Note) {
         near_places(scene).into_iter().for_each(|given| torn(recorder, scene, given));
+    }
+    if matches!(scene.kind, Kind::Read | Kind::Reassign) {
+        old_length(recorder, scene);
     }
 }
 
@@ -87,9 +91,9 @@ fn with_place(recorder: &mut Recorder, scene: &Scene, number: u64, bytes: PlaceB
     try_scene(recorder, scene);
 }
 
-/// Valid old places, of the number that is written and of the last, and one whose zeros are not zero: no
-/// valid places, so that nothing declines them. The last of these has no byte more than a valid one, and
-/// is declined by 6.
+/// Valid old places, of the number that is written and of the last, and one whose zeros are not zero: they
+/// pass as no place, so that 6 does not speak of them. It declines the last of these, which is a valid
+/// place.
 fn near_places(scene: &Scene) -> Vec<PlaceBytes> {
     let written = if scene.kind == Kind::Trim { 6 } else { 4 };
     let [old, old_other, old_sealed, ..] = old_places(written);
@@ -98,10 +102,26 @@ fn near_places(scene: &Scene) -> Vec<PlaceBytes> {
     vec![old, old_other, old_sealed, old_bare, zeros, record_bytes(written)]
 }
 
-/// The first write leaves the given bytes.
+/// The first write leaves the given bytes; a prepare behind it finds no place there.
 fn torn(recorder: &mut Recorder, scene: &Scene, given: PlaceBytes) {
     let mut scene = scene.clone();
     scene.set_message(Message { fate: Fate::Cut(1, Left::Torn), given });
+    recorder.hand_in(scene.cluster);
+    if recorder.call(&scene.call).is_err() {
+        return;
+    }
+    let replica = REPLICA as u64;
+    match scene.kind {
+        Kind::Trim => check(recorder, [(prepare(SERVER as u64, replica), Ok(5))]),
+        Kind::Send => check(recorder, [(take(2), Ok(SESSION + 1)), (prepare(2, replica), Ok(3))]),
+        _ => {}
+    }
+}
+
+/// Media of the length that the old layout had.
+fn old_length(recorder: &mut Recorder, scene: &Scene) {
+    let mut scene = scene.clone();
+    scene.cluster.media.truncate(3 * old::medium_bytes(PLACES as usize));
     try_scene(recorder, scene);
 }
 

@@ -85,19 +85,16 @@ impl Draw {
             '.' => place.fill(0),
             'x' => place[self.random.below(old::PLACE_BYTES as u64) as usize] ^= 1,
             'r' => place.copy_from_slice(&self.random.bytes(old::PLACE_BYTES)),
-            'l' => place[old::LENGTH_AT + 3] = 29,
-            'z' => place = old::encode(&Record { id: number, ..FIRST }),
+            'l' => change(&mut place, old::LENGTH_AT + 3, 29),
+            'z' => {
+                place = old::encode(&Record { id: number, ..FIRST });
+                change(&mut place, old::PLACE_CHECK_AT - 1, 1);
+            }
             'n' => {
                 let new = Record { id: number, ..FIRST }.encode();
                 place.copy_from_slice(&new[..old::PLACE_BYTES]);
             }
             _ => {}
-        }
-        if letter == 'z' {
-            place[old::PLACE_CHECK_AT - 1] = 1;
-        }
-        if matches!(letter, 'l' | 'z') {
-            seal(&mut place);
         }
         place
     }
@@ -227,6 +224,12 @@ impl Draw {
             self.named("n1001-full", &(full + "v")),
         ]
     }
+}
+
+/// Another byte, and a check that agrees.
+fn change(place: &mut old::PlaceBytes, at: usize, byte: u8) {
+    place[at] = byte;
+    seal(place);
 }
 
 /// A medium that these records fill.

@@ -2,13 +2,10 @@
 //! the releases before document 02, No. 7.
 
 use crate::crc::crc32;
-use crate::medium::{
-    put, seal, PlaceBytes, Record, PLACE_BYTES, PLACE_CHECK_AT, PLACE_ZEROS_AT, WIPED,
-};
+use crate::medium::{put, seal, PlaceBytes, Record, PLACE_BYTES, PLACE_CHECK_AT, PLACE_ZEROS_AT};
 use crate::old;
 
-/// All of them, of a place with this number. No check is wrong by chance: all but the last group are what
-/// a slip would write, or a layout that is not this one.
+/// All of them, of a place with this number.
 pub fn unfit_places(number: u64) -> Vec<PlaceBytes> {
     let whole = record(number).encode();
     let groups =
@@ -50,13 +47,13 @@ fn padded(record: &Record, fill: u8) -> PlaceBytes {
     bytes
 }
 
-/// A check of the 60 or 64 bytes before in place of the 68; the check where the zeros are; and one made
-/// with the zeros left out.
+/// What a slip in the writing would leave: a check of the first 60 or 64 bytes in place of the 68; and a
+/// check where the zeros are, of 64 bytes or of 68.
 fn slips(whole: PlaceBytes) -> [PlaceBytes; 4] {
     let check = |upto: usize| crc32(&whole[..upto]).to_be_bytes();
     let with = |at: usize, check: [u8; 4]| {
         let mut bytes = whole;
-        bytes[PLACE_ZEROS_AT..].copy_from_slice(&WIPED[PLACE_ZEROS_AT..]);
+        bytes[PLACE_ZEROS_AT..].fill(0);
         put(&mut bytes, at, &check);
         bytes
     };

@@ -28,10 +28,10 @@
 //! ENTRY stands for three fields: session; 0 if unresolved, else 1; the closing mark. The calls are
 //! take, prepare, copy, trim, open, issue, send, note, read, export, stop and reassign with their
 //! numbers in document 01's order (issue: server, client's mark, client, generation, partition,
-//! sequence, which has 64 bits, header; export: server, replica), then those of the fate: 0 answered, 1 lost, 2 answer
-//! lost or 3 cut; the write w; 0 old, 1 new or 2 torn. Behind the fate an export has the time, the
-//! lengths at which data and index file are lent, up to 1,200 and 300 bytes, and the key, 16 BYTES.
-//! Each byte of both files is AA before the call.
+//! sequence, which has 64 bits, header; export: server, replica), then those of the fate: 0 answered,
+//! 1 lost, 2 answer lost or 3 cut; the write w; 0 old, 1 new or 2 torn. Behind the fate an export has
+//! the time, the lengths at which data and index file are lent, up to 1,200 and 300 bytes, and the key,
+//! 16 BYTES. Each byte of both files is AA before the call.
 //!
 //! A call prints ok with its value if it has one, no with the number (and lock and estimate behind
 //! 15), or silent; behind that the 72 bytes that read answers; then three check sums (CRC-32, 8

@@ -1,5 +1,5 @@
-//! Segment files: a log as the data and index file that archive sites keep (document 02, No. 3), with the
-//! long sequence of No. 7: "Segment files carry the 64 bits too, as version 2, and only version 2 is read."
+//! Segment files: a log as the data and index file that archive sites keep (document 02, No. 3). They
+//! "carry the 64 bits too, as version 2, and only version 2 is read" (No. 7).
 //!
 //! Both files begin with the same header. In the data file the records follow, in the index file the
 //! offset of each of them, counted from the start of the data file (004: "Each element is byte

@@ -1,4 +1,4 @@
-//! Random old media: mostly a log, with damage of every kind, and second slices of mostly the right length.
+//! Random old media: mostly a log, with damage of every kind; second slices, mostly of the right length.
 
 use twin::medium::{seal, Slot};
 use twin::old;

@@ -1,5 +1,5 @@
-//! What holds of a new medium, rule by rule: "every slot and every record of the log is kept, and all other
-//! places come out wiped", and "a valid old log must read the same through the new layout".
+//! What holds of a new medium, rule by rule: "every slot and every record of the log is kept, and all
+//! other places come out wiped", and "a valid old log must read the same through the new layout".
 
 use crate::draw::{damage, draw_whole, Conversion};
 use twin::medium::{self, is_place, place, Record, Slot, WIPED};

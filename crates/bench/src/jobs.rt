@@ -1,8 +1,9 @@
 // The jobs by their numbers: 0 the CRC of 64 KB, 1 the marks of seven full media, 2 the same by a scan with a product in its loop, 3 one
 // send of record 1,000 to a replica that holds 999, 4 one prepare that cuts a full log of 1,000 to 500, 5 one open over seven replicas
-// that all hold 1,000, 6 an export of 1,000 places, 7 an import of that pair into a wiped medium, 8 one issue of record 501. Each sets a
-// cluster up, and then makes its turn as often as asked. A turn changes a byte that its result does not depend on, or undoes what the
+// that all hold 1,000, 6 an export of 1,000 places, 7 an import of that pair into a wiped medium, 8 a conversion of an old
+// medium of 1,000 places, 9 one issue of record 501. Each sets a cluster up, and then makes its turn as often as asked. A turn changes a byte that its result does not depend on, or undoes what the
 // turn before did, which counts, so that none can be saved; each issue starts from the same records.
+use crate::conversions;
 use crate::segments;
 use crate::stage;
 use crate::turns;
@@ -42,7 +43,7 @@ fn closed(r: Records, m: &mut [u8], tables: &mut [u64]) -> Records {
 fn records(job: u64) -> u64 {
     match job {
         3 => 999,
-        8 => 500,
+        9 => 500,
         _ => 1000,
     }
 }
@@ -52,7 +53,7 @@ fn ready(job: u64, r: Records, m: &mut [u8], tables: &mut [u64]) -> Records {
     match job {
         3 => stage::issued(r, m, tables),
         4 => closed(r, m, tables),
-        8 => r,
+        9 => r,
         _ => stage::prepared(r, m, tables, 1),
     }
 }
@@ -77,7 +78,7 @@ fn issue(r: Records, m: &mut [u8], tables: &mut [u64]) -> u64 {
 }
 
 fn turn(job: u64, r: Records, full: &[u8], m: &mut [u8], tables: &mut [u64]) -> u64 {
-    if job == 8 {
+    if job == 9 {
         return issue(r, m, tables);
     }
     turns::undo(job, full, m);
@@ -119,6 +120,7 @@ pub fn total(job: u64, m: &mut [u8], tables: &mut [u64], count: u64) -> u64 {
             reads(job, m, count)
         }
         6 | 7 => segments::total(job, m, tables, count),
+        8 => conversions::total(m, tables, count),
         _ => calls(job, m, tables, count),
     }
 }

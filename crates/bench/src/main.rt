@@ -9,6 +9,7 @@ use text::line;
 use text::number;
 use text::number::Number;
 
+mod conversions;
 mod jobs;
 mod products;
 mod segments;
@@ -20,7 +21,7 @@ fn say(text: &[u8]) {
 }
 
 // How many jobs there are.
-const JOBS: u64 = 9;
+const JOBS: u64 = 10;
 
 // The number of the job of this name, from 0; JOBS where there is none.
 fn job(names: &[u8], name: &[u8]) -> u64 {
@@ -42,7 +43,7 @@ fn answer(text: &[u8], m: &mut [u8], tables: &mut [u64]) -> bool {
         return false;
     };
     let j = job(
-        b"crc\tmarks\tproducts\tsend\tprepare\topen\texport\timport\tissue",
+        b"crc\tmarks\tproducts\tsend\tprepare\topen\texport\timport\tconvert\tissue",
         line::field(text, 0),
     );
     if j == JOBS {

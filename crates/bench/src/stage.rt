@@ -70,7 +70,7 @@ fn apply(
         time: time,
         key: [0; 16],
     };
-    journal::apply::apply(
+    apply::apply(
         shape,
         r,
         m,

@@ -11,13 +11,14 @@ use crate::stage::MEDIUM;
 use crc32::Tables;
 use medium::log;
 use std::num::wrapping_add_u64;
+use storage::sizes::PLACE;
 use storage::sizes::SLOTS;
 
 // The bytes whose CRC is taken.
 const CRC_BYTES: usize = 65536;
 
 // Where the last of 1,000 places begins.
-const LAST_PLACE: usize = 64000;
+const LAST_PLACE: usize = MEDIUM - PLACE;
 
 // The CRC of 64 KB.
 fn crc(t: &Tables, m: &[u8]) -> u64

@@ -140,7 +140,7 @@ fn call_line(
     };
     let mut file = [0u8; 1];
     let mut index = [0u8; 1];
-    let o = journal::apply::apply(
+    let o = apply::apply(
         shape,
         records,
         &mut m[0..n],

@@ -19,7 +19,7 @@ mod perform;
 const LIMIT: usize = 2000;
 
 // Bytes for media and marks for lock tables, some more than any cluster here has: a call can be lent too much.
-pub const MEDIA: usize = 8000;
+pub const MEDIA: usize = 8008;
 
 pub const TABLES: usize = 4100;
 

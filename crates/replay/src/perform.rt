@@ -97,7 +97,7 @@ fn apply(
     let data = cells::bytes(w, DATA);
     let given = cells::bytes(w, GIVEN);
     let n = cells::at(w, SIZE);
-    journal::apply::apply(
+    apply::apply(
         shape(w),
         records::of(w),
         m,

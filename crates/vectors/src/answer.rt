@@ -1,6 +1,7 @@
 // Which command a line is, and its answer.
 ghost use mathlib.Core.Path.{_≡_};
 ghost use Rattle.crc32.specs.Tables.{tablesOf};
+use crate::conversions;
 use crate::media;
 use crate::operation;
 use crate::records;
@@ -17,6 +18,7 @@ enum Command {
     Media(operation::Command),
     Pair,
     Import,
+    Convert,
     Unknown,
 }
 
@@ -62,13 +64,16 @@ fn medium_form_of(word: &[u8]) -> Form {
     segment_form_of(word)
 }
 
-// The same of the commands on segment files.
+// The same of the commands on segment files, and of the converter's.
 fn segment_form_of(word: &[u8]) -> Form {
     if check::same(word, b"pair") {
         return Form(Command::Pair, 5);
     }
     if check::same(word, b"import") {
         return Form(Command::Import, 7);
+    }
+    if check::same(word, b"convert") {
+        return Form(Command::Convert, 4);
     }
     Form(Command::Unknown, 0)
 }
@@ -91,6 +96,7 @@ pub fn answer(t: &Tables, line: &[u8]) -> bool
         Command::Media(x) => media::answer(t, line, x),
         Command::Pair => segments::pair(t, line),
         Command::Import => segments::import(t, line),
+        Command::Convert => conversions::convert(t, line),
         Command::Unknown => false,
     }
 }

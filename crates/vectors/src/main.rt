@@ -1,4 +1,4 @@
-// Runs stored vectors through the proved code of crc32, fate, storage, segment and segment_import. Standard input has a vector a line; the answer to each
+// Runs stored vectors through the proved code of crc32, fate, storage, segment, segment_import and converter. Standard input has a vector a line; the answer to each
 // is a line of standard output, or `bad` where a line has the form of none. The vectors, the form of each line and the answers
 // that stdout must equal come from the other implementation (twin/src/vectors.rs; the twin's storage_vectors writes both files).
 ghost use mathlib.Core.Path.{_≡_};
@@ -8,13 +8,14 @@ use libc::STDIN_FILENO;
 use run_lines::print;
 
 mod answer;
+mod conversions;
 mod media;
 mod operation;
 mod records;
 mod segments;
 
-// The longest line that is answered.
-const LIMIT: usize = 2000;
+// The longest line that is answered: the digits of an old medium of 1,000 places, and more.
+const LIMIT: usize = 130000;
 
 // Answers a line of n bytes; of a line that is too long only the first are held.
 fn finish(t: &Tables, held: &[u8], n: usize)
@@ -81,6 +82,6 @@ fn run(t: &Tables, held: &mut [u8])
 
 fn main() {
     let t = crc32::tables();
-    let mut held = io::buffer();
-    run(&t, &mut held[0..LIMIT]);
+    let mut held = [0u8; LIMIT];
+    run(&t, &mut held);
 }

@@ -40,10 +40,17 @@ fn crc_of(t: &Tables, s: &[u8], b: &mut [u8]) -> bool
     if !hex::read(s, b) {
         return false;
     }
+    print_crc(t, b);
+    true
+}
+
+// The check of b, in digits.
+pub fn print_crc(t: &Tables, b: &[u8])
+    requires { ⌜ now t ≡ tablesOf ⌝ }
+{
     let mut out = [0u8; 4];
     octets::set_be(&mut out, crc32::crc(t, b) as u64);
     print::digits(&out);
-    true
 }
 
 // place, n, BYTES.
@@ -76,7 +83,7 @@ fn tell(b: &[u8])
     print::next(f.client as u64);
     print::next(f.generation as u64);
     print::next(f.partition as u64);
-    print::next(f.sequence as u64);
+    print::next(f.sequence);
     print::next(f.header as u64);
     content(b);
 }
@@ -136,7 +143,7 @@ fn numbers_of(line: &[u8]) -> Numbers {
     let Word::Is(partition) = number::decimal32(line::field(line, 4)) else {
         return Numbers::Unfit;
     };
-    let Word::Is(sequence) = number::decimal32(line::field(line, 5)) else {
+    let Number::Is(sequence) = number::decimal(line::field(line, 5)) else {
         return Numbers::Unfit;
     };
     let Word::Is(header) = number::decimal32(line::field(line, 6)) else {

@@ -6,6 +6,7 @@ ghost use Rattle.crc32.specs.Tables.{tablesOf};
 ghost use Rattle.storage.specs.Sizes.{mediumSize};
 ghost use Rattle.storage.specs.Log.{markOf, placesFrom};
 ghost use Rattle.segment.specs.Pair.{dataSize, indexSize};
+use crate::records;
 use crc32::Tables;
 use run_lines::hex;
 use run_lines::print;
@@ -176,10 +177,8 @@ fn read_in(
         return false;
     }
     reply(segment_import::import::import(n, m, z, file, index));
-    let mut sum = [0u8; 4];
-    octets::set_be(&mut sum, crc32::crc(t, m) as u64);
     print::text(b"\t");
-    print::digits(&sum);
+    records::print_crc(t, m);
     true
 }
 

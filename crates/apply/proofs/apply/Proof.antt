@@ -1,11 +1,11 @@
--- `apply::apply`, call by call: each call's own contract, and what lies beside a call that does not read it changes nothing, nor is changed (`applied`,
+-- `apply`, call by call: each call's own contract, and what lies beside a call that does not read it changes nothing, nor is changed (`applied`,
 -- `exported`).
 use mathlib.Core.Path.{refl}
 use Rattle.checks.specs.Results.{stateOf}
-use Rattle.journal.proofs.Beside.{applied, exported}
+use Rattle.apply.proofs.Beside.{applied, exported}
 use borrow.Author.Needs.{needs}
-use Rattle.journal.proofs.apply.apply.Statement.{statement}
-use Rattle.journal.proofs.apply.apply.Tie as tie
+use Rattle.apply.proofs.apply.Statement.{statement}
+use Rattle.apply.proofs.apply.Tie as tie
 
 enum-known-call : tie.Need-enum-known-call
 enum-known-call c = search needs

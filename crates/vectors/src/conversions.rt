@@ -43,10 +43,16 @@ fn with_old(t: &Tables, s: &[u8], after: &mut [u8]) -> bool
     if before.len() < n {
         return false;
     }
-    if !hex::read(s, &mut before[0..n]) {
+    read_in(t, s, &mut before[0..n], after)
+}
+
+fn read_in(t: &Tables, s: &[u8], before: &mut [u8], after: &mut [u8]) -> bool
+    requires { ⌜ now t ≡ tablesOf ⌝ }
+{
+    if !hex::read(s, before) {
         return false;
     }
-    reply(converter::convert::convert(&before[0..n], after));
+    reply(converter::convert::convert(before, after));
     print::text(b"\t");
     records::print_crc(t, after);
     true

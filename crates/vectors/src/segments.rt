@@ -96,7 +96,7 @@ fn print_pair(
 )
     requires { ⌜ now t ≡ tablesOf ⌝ }
     requires { ⌜ (length (now m) ≡ mediumSize places) × (k ≤ markOf places (now m)) × (k ≤ 14) ⌝ }
-    requires { ⌜ (length (now file) ≡ dataSize (placesFrom k 1 (now m))) × (length (now file) ≤ 1080) ⌝ }
+    requires { ⌜ (length (now file) ≡ dataSize (placesFrom k 1 (now m))) × (length (now file) ≤ 1136) ⌝ }
     requires { ⌜ length (now index) ≡ indexSize k ⌝ }
 {
     write_pair(t, file, index, z, m, k);
@@ -176,10 +176,17 @@ fn read_in(
     if !hex::read(line::field(line, 6), index) {
         return false;
     }
-    reply(segment_import::import::import(n, m, z, file, index));
+    tell(t, segment_import::import::import(n, m, z, file, index), m);
+    true
+}
+
+// The reply, and the check of the medium after it.
+fn tell(t: &Tables, r: Imported, m: &[u8])
+    requires { ⌜ now t ≡ tablesOf ⌝ }
+{
+    reply(r);
     print::text(b"\t");
     records::print_crc(t, m);
-    true
 }
 
 // ok, or no and the number.

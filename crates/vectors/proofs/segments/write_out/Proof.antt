@@ -57,8 +57,8 @@ print-pair-requires c κs =
     let e = 128 + 8 * c .before .before .before .mark .result in
     let file-size : n - 0 ≡ n = omega arith in
     let index-size : e - 0 ≡ e = omega arith in
-    let short : n ≤ 1080 = omega (arith, sizes-bound (c .before .before .before .mark .result) (c .before .before .before .mark .result) 1 (a .m .now) (all-sized (a .places) (c .before .before .before .mark .result) (a .m .now) (omega (arith, c .before .before .before .mark .ensures))) (omega arith) (omega arith), c .before .before .data-size .ensures, k, l, p) in
-    let file = length-between 0 n (replicate {A = ℕ} 1080 0) (omega arith) (omega (arith, short)) ∙ file-size in
+    let short : n ≤ 1136 = omega (arith, sizes-bound (c .before .before .before .mark .result) (c .before .before .before .mark .result) 1 (a .m .now) (all-sized (a .places) (c .before .before .before .mark .result) (a .m .now) (omega (arith, c .before .before .before .mark .ensures))) (omega arith) (omega arith), c .before .before .data-size .ensures, k, l, p) in
+    let file = length-between 0 n (replicate {A = ℕ} 1136 0) (omega arith) (omega (arith, short)) ∙ file-size in
     let index = length-between 0 e (replicate {A = ℕ} 240 0) (omega arith) (omega (arith, p, l, k)) ∙ index-size in
     (p .0, ((p .1 .0, omega (arith, k), omega (arith, p, l, k)), ((file ∙ c .before .before .data-size .ensures, omega (arith, file, short)), index)))
 

@@ -1,12 +1,13 @@
 // A conversion of 1,000 old places with 28 bytes of data each. The old medium is made from a new one, place by place.
 ghost use mathlib.Core.Path.{_≡_};
+ghost use Prim.Native.Nat.{_≤_};
 ghost use lib.ListN.{length};
 ghost use Rattle.crc32.specs.Tables.{tablesOf};
 ghost use Rattle.bench.specs.Sizes.{oldMedium, oneMedium};
-use converter::old::OLD_PLACE;
 use crate::stage;
 use crate::stage::MEDIUM;
 use crate::turns;
+use converter::old::OLD_PLACE;
 use crc32::Tables;
 use std::num::wrapping_add_u64;
 use storage::sizes::CHECK;
@@ -43,11 +44,11 @@ fn put_old(t: &Tables, out: &mut [u8], p: &[u8])
     crc32::seal(t, out, CHECKED);
 }
 
-// Every place of a medium.
+// Every place of the first medium.
 fn put_all(t: &Tables, out: &mut [u8], m: &[u8])
     requires { ⌜ now t ≡ tablesOf ⌝ }
     requires { ⌜ length (now out) ≡ oldMedium ⌝ }
-    requires { ⌜ length (now m) ≡ oneMedium ⌝ }
+    requires { ⌜ oneMedium ≤ length (now m) ⌝ }
 {
     let mut a = SLOTS;
     let mut b = SLOTS;
@@ -62,7 +63,7 @@ fn put_all(t: &Tables, out: &mut [u8], m: &[u8])
     }
 }
 
-// The old medium of a new one.
+// The old medium of the first new one.
 fn make_old(out: &mut [u8], m: &[u8]) {
     let t = crc32::tables();
     if out.len() != OLD_MEDIUM {
@@ -72,7 +73,7 @@ fn make_old(out: &mut [u8], m: &[u8]) {
         return;
     }
     octets::put(out, 0, &m[0..SLOTS]);
-    put_all(&t, out, &m[0..MEDIUM]);
+    put_all(&t, out, m);
 }
 
 // A byte of a slot differs from turn to turn; the other slot is the current one.

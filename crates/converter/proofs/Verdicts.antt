@@ -159,6 +159,6 @@ declines old new = (
   (λ e. (placesOf (length old), convertible old new (ok-only old new e)), λ c. accepted old new (tests old new (c .0) (c .1))),
   λ h. let v = declined old new (refused old new h) in (v, sym (stays old new 27 (sym v))),
   λ N c.
-  let n : N ≡ placesOf (length old) = sym (ap placesOf (c .before) ∙ places-found N) in
-  sym (becomes old new N (converted N old) n (sym (accepted old new (tests old new N c))) refl),
+      let n : N ≡ placesOf (length old) = sym (ap placesOf (c .before) ∙ places-found N) in
+      sym (becomes old new N (converted N old) n (sym (accepted old new (tests old new N c))) refl),
 )

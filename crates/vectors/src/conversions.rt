@@ -1,8 +1,8 @@
 // An old medium converted: into a second slice of a given length, whose bytes are all one number before the call.
 ghost use mathlib.Core.Path.{_≡_};
 ghost use Rattle.crc32.specs.Tables.{tablesOf};
-use converter::Converted;
 use crate::records;
+use converter::Converted;
 use crc32::Tables;
 use run_lines::hex;
 use run_lines::print;

@@ -6,10 +6,10 @@ use Rattle.bench.proofs.job.Statement.{statement}
 use Rattle.bench.proofs.job.Tie as tie
 
 abbrev Inv-loop : tie.InvT-loop
-Inv-loop names name rest₀ i₀ rest i = i ≤ 9
+Inv-loop names name rest₀ i₀ rest i = i ≤ 10
 
 abbrev μ-loop : tie.MeasureT-loop
-μ-loop names name rest₀ i₀ rest i = 9 - i
+μ-loop names name rest₀ i₀ rest i = 10 - i
 
 loop-holds : tie.Need-loop-holds Inv-loop μ-loop
 loop-holds c = search needs

@@ -5,7 +5,7 @@ use mathlib.Core.Bool.{cond}
 use Prim.Native.Nat.{ℕ, _*_}
 use lib.ListN.{take, replicate}
 use Rattle.octets.specs.Octets.{writeAt}
-use Rattle.storage.specs.Sizes.{mediumSize}
+use Rattle.storage.specs.Sizes.{placeSize, mediumSize}
 use Rattle.cluster.specs.declared.Shape.{Shape}
 use Rattle.cluster.specs.declared.Call.{Call}
 use Rattle.cluster.specs.State.{State, fresh}
@@ -60,7 +60,7 @@ clusterLine h p m tables = cond (accepted h) (holding (replyText (ok [])) h (fre
 
 -- fates of a script leave no given bytes, and no line exports
 abbrev pub inputOf : Call → List ℕ → List ℕ → Input
-inputOf c content locks = record { call = c; content = content; locks = locks; given = replicate 64 0; stamp = noStamp; files = noFiles }
+inputOf c content locks = record { call = c; content = content; locks = locks; given = replicate placeSize 0; stamp = noStamp; files = noFiles }
 
 -- a call's reply, and the cluster that it leaves
 abbrev pub replied : Shape → Result → List ℕ → After

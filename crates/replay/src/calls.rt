@@ -69,18 +69,18 @@ fn request(line: &[u8]) -> Request {
 }
 
 // The greatest number of field k of a request: all but the sequence have 32 bits.
-fn greatest(k: u64) -> u64 {
-    match k {
-        6 => u64::MAX,
-        _ => 4294967295,
+fn greatest(k: usize) -> u64 {
+    if k == 6 {
+        return u64::MAX;
     }
+    4294967295
 }
 
 // Whether the numbers of a request have their widths.
 fn are_words(line: &[u8]) -> bool {
     let mut k = 3;
     while k < 8 {
-        if greatest(k as u64) < fields::at(line, k) {
+        if greatest(k) < fields::at(line, k) {
             return false;
         }
         k += 1;

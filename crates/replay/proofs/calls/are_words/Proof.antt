@@ -14,6 +14,9 @@ abbrev μ-loop : tie.MeasureT-loop
 loop-holds : tie.Need-loop-holds Inv-loop μ-loop
 loop-holds c = search needs
 
+greatest-requires : tie.Need-greatest-requires Inv-loop μ-loop
+greatest-requires c κs = search needs
+
 at-requires : tie.Need-at-requires Inv-loop μ-loop
 at-requires c κs = search needs
 
@@ -35,4 +38,4 @@ returns-2 c = search needs
 pub are-words-spec : {M : Type 1} → statement M
 are-words-spec =
     tie.close
-    (tie.spec Inv-loop μ-loop loop-holds at-requires returns add-k loop-less loop-again returns-2)
+    (tie.spec Inv-loop μ-loop loop-holds greatest-requires at-requires returns add-k loop-less loop-again returns-2)

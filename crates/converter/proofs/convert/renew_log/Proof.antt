@@ -54,11 +54,11 @@ valid-requires c κs =
     let l = c .before .before .loop in
     (c .before .before .before .before .before .pre .0, ap length (place-here (l .n) (l .a) (a .m .now) (l .inv .1)) ∙ length-old (a .places) (l .n) (a .m .now) (c .before .loop-test .taken) (sym (c .before .before .before .before .before .pre .1 .0)))
 
-same-length : tie.Need-same-length Inv-loop μ-loop
-same-length c = search needs
+stop-length : tie.Need-same-length Inv-loop μ-loop
+stop-length c = search needs
 
-returns : tie.Need-returns Inv-loop μ-loop
-returns c =
+stops : tie.Need-returns Inv-loop μ-loop
+stops c =
     let a = c .before .before .before .before .before .before .before .args in
     let l = c .before .before .before .before .loop in
     let m = a .m .now in
@@ -118,11 +118,11 @@ loop-again c =
       l .inv .5 ∙ renewed-next (a .places) (l .n) (l .b) _ m (l .out) _ e (omega (arith, l .inv, c .before .before .before .before .before .before .before .before .before .before .before .before .pre .1 .1, h)) ys long,
     )
 
-same-length-2 : tie.Need-same-length-2 Inv-loop μ-loop
-same-length-2 c = search needs
+end-length : tie.Need-same-length-2 Inv-loop μ-loop
+end-length c = search needs
 
-returns-2 : tie.Need-returns-2 Inv-loop μ-loop
-returns-2 c =
+ends : tie.Need-returns-2 Inv-loop μ-loop
+ends c =
     let a = c .before .before .before .before .args in
     let l = c .before .loop in
     let e = left-end (a .places) (l .n) (a .m .now) (c .loop-test .left) in
@@ -142,8 +142,8 @@ renew-log-spec =
     part-valid-end
     add-valid
     valid-requires
-    same-length
-    returns
+    stop-length
+    stops
     sub-renew
     part-renew-start
     part-renew-end
@@ -154,5 +154,5 @@ renew-log-spec =
     add-n
     loop-less
     loop-again
-    same-length-2
-    returns-2)
+    end-length
+    ends)

@@ -1,4 +1,4 @@
-// The scan for a mark with a product in its loop: where a group begins is found from the number of places before it, whereas `medium::log`
+// The scan for a mark with a product in its loop: where a group begins is found from the number of places before it, whereas `scan::mark`
 // adds a group's size to where the last one began. It stands here alone, to be timed beside that one.
 ghost use mathlib.Core.Path.{_≡_};
 ghost use lib.ListN.{length};
@@ -7,8 +7,8 @@ ghost use Rattle.storage.specs.Sizes.{mediumSize};
 ghost use Rattle.storage.specs.Log.{markOf};
 use crc32::Tables;
 use lanes::LANES;
-use medium::groups;
-use medium::groups::GROUP;
+use scan::groups;
+use scan::groups::GROUP;
 use storage::sizes::PLACE;
 use storage::sizes::SLOTS;
 

@@ -9,7 +9,6 @@ use crate::products;
 use crate::stage::MEDIA;
 use crate::stage::MEDIUM;
 use crc32::Tables;
-use medium::log;
 use std::num::wrapping_add_u64;
 use storage::sizes::PLACE;
 use storage::sizes::SLOTS;
@@ -39,7 +38,7 @@ fn mark(t: &Tables, m: &[u8], product: bool) -> u64
     if product {
         return products::mark(t, m, 1000) as u64;
     }
-    log::mark(t, m, 1000) as u64
+    scan::mark(t, m, 1000) as u64
 }
 
 fn seven_marks(t: &Tables, m: &[u8], product: bool) -> u64

@@ -1,3 +1,2 @@
-pub mod groups;
-pub mod log;
 pub mod operation;
+pub mod places;

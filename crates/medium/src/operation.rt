@@ -11,7 +11,7 @@ ghost use Rattle.storage.specs.Log.{markOf};
 ghost use Rattle.storage.specs.Operations.{slotWrite, promising, closing, prepareWrites, trimWrites, appendWrites, noteWrites, closedMark, writesOf, HasPlace, MarkKnown};
 ghost use Rattle.storage.specs.AsRead.{AsRead};
 ghost use Rattle.storage.specs.Given.{passes};
-use crate::log;
+use crate::places;
 use crc32::Tables;
 use fate::Fate;
 use storage::operation::Operation;
@@ -33,7 +33,7 @@ pub fn read_medium(t: &Tables, m: &[u8], places: usize) -> Read
 {
     let c = slot::choose(t, m);
     let x = slot::held(c, m);
-    let n = log::mark(t, m, places);
+    let n = scan::mark(t, m, places);
     Read {
         places: places,
         current: c,
@@ -83,7 +83,7 @@ fn close(m: &mut [u8], n: usize, to: Target, given: &[u8], f: Fate, k: u64)
 {
     match to {
         Target::Whole => {}
-        Target::Mark(t) => log::truncate(m, n, t as usize, given, f, k),
+        Target::Mark(t) => places::truncate(m, n, t as usize, given, f, k),
     }
 }
 
@@ -106,7 +106,7 @@ fn trim(m: &mut [u8], read: Read, to: u64, given: &[u8], f: Fate)
     requires { ⌜ length (now given) ≡ placeSize ⌝ }
     ensures { λ _. ⌜ now (m .exit) ≡ after f (now (given .entry)) (trimWrites (read .places) to (now (m .entry))) (now (m .entry)) ⌝ }
 {
-    log::truncate(m, read.mark, to as usize, given, f, 1);
+    places::truncate(m, read.mark, to as usize, given, f, 1);
 }
 
 // send and copy: a record in the place behind mark n.
@@ -117,7 +117,7 @@ fn append(m: &mut [u8], read: Read, n: u64, src: &[u8], given: &[u8], f: Fate)
     requires { ⌜ length (now given) ≡ placeSize ⌝ }
     ensures { λ _. ⌜ now (m .exit) ≡ after f (now (given .entry)) (appendWrites n (now (src .entry))) (now (m .entry)) ⌝ }
 {
-    log::set_place(m, n as usize + 1, src, given, f, 1);
+    places::set_place(m, n as usize + 1, src, given, f, 1);
 }
 
 // note: a slot with the promise kept and these low-water marks.
@@ -189,7 +189,7 @@ pub fn mark_after(t: &Tables, m: &[u8], places: usize, op: Operation, n: u64) ->
         Operation::Prepare(_, to) => closed_mark(to, n),
         Operation::Trim(to) => lesser(to, n),
         Operation::Note(_, _) => n,
-        Operation::Append(_) => log::mark_from(t, m, places, n as usize) as u64,
+        Operation::Append(_) => scan::mark_from(t, m, places, n as usize) as u64,
     }
 }
 

@@ -99,7 +99,7 @@ pub fn place_of(shape: Shape, media: &[u8], i: usize, n: u64) -> Place
     let span = span_of(shape.places, i);
     let at = span.at;
     let end = span.end;
-    medium::log::read_place(&media[at..end], n)
+    medium::places::read_place(&media[at..end], n)
 }
 
 // A copy that is admitted. The CRC tables are made here, once for both replicas.

@@ -77,7 +77,7 @@ fn write_out(t: &Tables, z: Stamp, m: &[u8], places: usize)
     requires { ⌜ length (now m) ≡ mediumSize places ⌝ }
     requires { ⌜ places ≤ 14 ⌝ }
 {
-    let k = medium::log::mark(t, m, places);
+    let k = scan::mark(t, m, places);
     let mut file = [0u8; DATA];
     let mut index = [0u8; INDEX];
     let size = data_size(m, k);

@@ -1,4 +1,4 @@
--- `products::mark`. The invariant of the scan by a sum (`log::mark_from`), without where the next group begins.
+-- `products::mark`. The invariant of the scan by a sum (`scan::mark_from`), without where the next group begins.
 -- Assumes nothing.
 use mathlib.Core.Path.{_≡_, ap, _∙_}
 use Prim.Native.Nat.{ℕ, _+_, _-_, _*_, _≤_, zero-le}
@@ -6,9 +6,9 @@ use lib.ListN.{drop, length}
 use Rattle.storage.specs.Sizes.{slotsSize, placeSize}
 use Rattle.storage.specs.Log.{markOf}
 use Rattle.lanes.specs.Lanes.{lanes}
-use Rattle.medium.specs.Rows.{validRows}
+use Rattle.scan.specs.Rows.{validRows}
 use Rattle.storage.proofs.Scan.{mark-le}
-use Rattle.medium.proofs.Rows.{scan-start, scan-next, scan-stop, scan-end}
+use Rattle.scan.proofs.Rows.{scan-start, scan-next, scan-stop, scan-end}
 use native.Mathlib.Omega.{arith}
 use borrow.Author.Needs.{needs}
 use Rattle.bench.proofs.products.mark.Statement.{statement}

@@ -1,10 +1,10 @@
 -- `groups::together`: the lanes start behind the IDs, which the fields' test has shown, and come to the checks (`by-lanes`).
 use borrow.Author.Tests.{not-false}
 use Rattle.octets.proofs.Bytes.{bytes-known}
-use Rattle.medium.proofs.SideBySide.{by-lanes}
+use Rattle.scan.proofs.SideBySide.{by-lanes}
 use borrow.Author.Needs.{needs}
-use Rattle.medium.proofs.groups.together.Statement.{statement}
-use Rattle.medium.proofs.groups.together.Tie as tie
+use Rattle.scan.proofs.groups.together.Statement.{statement}
+use Rattle.scan.proofs.groups.together.Tie as tie
 
 all-fit-requires : tie.Need-all-fit-requires
 all-fit-requires c κs = search needs

@@ -1,17 +1,17 @@
--- `log::mark_from`. The invariant: n places are valid, those from a on are left, and both make the mark.
+-- `scan::mark_from`. The invariant: n places are valid, those from a on are left, and both make the mark.
 use mathlib.Core.Path.{_≡_, refl}
 use Prim.Native.Nat.{_+_, _-_, _*_, _≤_}
 use lib.ListN.{drop, length}
 use Rattle.lanes.specs.Lanes.{lanes}
 use Rattle.storage.specs.Sizes.{slotsSize, placeSize}
 use Rattle.storage.specs.Log.{markOf}
-use Rattle.medium.specs.Rows.{validRows}
+use Rattle.scan.specs.Rows.{validRows}
 use Rattle.storage.proofs.Scan.{mark-le}
-use Rattle.medium.proofs.Rows.{scan-start, scan-next, scan-stop, scan-end}
+use Rattle.scan.proofs.Rows.{scan-start, scan-next, scan-stop, scan-end}
 use native.Mathlib.Omega.{arith}
 use borrow.Author.Needs.{needs}
-use Rattle.medium.proofs.log.mark_from.Statement.{statement}
-use Rattle.medium.proofs.log.mark_from.Tie as tie
+use Rattle.scan.proofs.mark_from.Statement.{statement}
+use Rattle.scan.proofs.mark_from.Tie as tie
 
 abbrev Inv-loop : tie.InvT-loop
 Inv-loop t m places known n₀ a₀ n a = (n ≤ places) × (a ≡ slotsSize + placeSize * n) × (markOf places m ≡ n + validRows (places - n) n (drop a m))

@@ -19,7 +19,7 @@ use Rattle.lanes.specs.Lanes.{lanes, Onward, afterNumber, Numbered}
 use Rattle.storage.specs.Layout.{checkOffset, checkSize}
 use Rattle.storage.specs.Sizes.{placeLayout, placeSize}
 use Rattle.storage.specs.Places.{idOf, validPlace}
-use Rattle.medium.specs.Rows.{row, Fit, AllFit, Checks}
+use Rattle.scan.specs.Rows.{row, Fit, AllFit, Checks}
 
 -- the bytes of a place's ID, and those behind it and before the check
 abbrev idSize : ℕ

@@ -11,12 +11,12 @@ use Rattle.crc32.specs.Crc32.{checked}
 use Rattle.lanes.specs.Lanes.{lanes}
 use Rattle.storage.specs.Layout.{checkOffset}
 use Rattle.storage.specs.Sizes.{placeLayout, placeSize}
-use Rattle.medium.specs.Rows.{Fit}
-use Rattle.medium.proofs.SideBySide.{fit-next}
+use Rattle.scan.specs.Rows.{Fit}
+use Rattle.scan.proofs.SideBySide.{fit-next}
 use native.Mathlib.Omega.{arith}
 use borrow.Author.Needs.{needs}
-use Rattle.medium.proofs.groups.all_fit.Statement.{statement}
-use Rattle.medium.proofs.groups.all_fit.Tie as tie
+use Rattle.scan.proofs.groups.all_fit.Statement.{statement}
+use Rattle.scan.proofs.groups.all_fit.Tie as tie
 
 abbrev Inv-loop : tie.InvT-loop
 Inv-loop s n j₀ a₀ j a = (j ≤ lanes) × (a ≡ placeSize * j) × ((i : ℕ) → i < j → Fit n s i)

@@ -13,7 +13,7 @@ use Rattle.lanes.specs.Lanes.{lanes}
 use Rattle.storage.specs.Sizes.{slotsSize, placeSize}
 use Rattle.storage.specs.Places.{validPlace}
 use Rattle.storage.specs.Log.{placeAt, placesFrom, run, runBy, markOf}
-use Rattle.medium.specs.Rows.{rows, validRows}
+use Rattle.scan.specs.Rows.{rows, validRows}
 use Rattle.storage.proofs.Scan.{rest, run-le, mark-known}
 
 -- ---- place by place

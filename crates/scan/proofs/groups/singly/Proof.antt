@@ -6,12 +6,12 @@ use lib.ListN.{drop}
 use Rattle.octets.proofs.Laws.{between-part}
 use Rattle.storage.specs.Sizes.{placeSize}
 use Rattle.storage.specs.Places.{validPlace}
-use Rattle.medium.specs.Rows.{validRows}
-use Rattle.medium.proofs.Rows.{turn-start, turn-next, turn-stop, turn-end}
+use Rattle.scan.specs.Rows.{validRows}
+use Rattle.scan.proofs.Rows.{turn-start, turn-next, turn-stop, turn-end}
 use native.Mathlib.Omega.{arith}
 use borrow.Author.Needs.{needs}
-use Rattle.medium.proofs.groups.singly.Statement.{statement}
-use Rattle.medium.proofs.groups.singly.Tie as tie
+use Rattle.scan.proofs.groups.singly.Statement.{statement}
+use Rattle.scan.proofs.groups.singly.Tie as tie
 
 abbrev Inv-loop : tie.InvT-loop
 Inv-loop t s n count j₀ a₀ j a = (j ≤ count) × (a ≡ placeSize * j) × (validRows count n s ≡ j + validRows (count - j) (n + j) (drop a s))

@@ -8,7 +8,7 @@ ghost use lib.ListN.{length};
 ghost use Rattle.crc32.specs.Tables.{tablesOf};
 ghost use Rattle.lanes.specs.Lanes.{lanes};
 ghost use Rattle.storage.specs.Sizes.{placeSize};
-ghost use Rattle.medium.specs.Rows.{AllFit, Checks, validRows};
+ghost use Rattle.scan.specs.Rows.{AllFit, Checks, validRows};
 use crc32::Tables;
 use lanes::LANES;
 use lanes::Registers;

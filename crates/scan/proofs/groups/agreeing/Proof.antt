@@ -8,12 +8,12 @@ use Rattle.octets.proofs.Laws.{between-part}
 use Rattle.lanes.specs.Lanes.{lanes}
 use Rattle.storage.specs.Layout.{checkOffset, checkSize}
 use Rattle.storage.specs.Sizes.{placeLayout, placeSize}
-use Rattle.medium.specs.Rows.{validRows}
-use Rattle.medium.proofs.Rows.{turn-start, turn-next, turn-stop, turn-end}
+use Rattle.scan.specs.Rows.{validRows}
+use Rattle.scan.proofs.Rows.{turn-start, turn-next, turn-stop, turn-end}
 use native.Mathlib.Omega.{arith}
 use borrow.Author.Needs.{needs}
-use Rattle.medium.proofs.groups.agreeing.Statement.{statement}
-use Rattle.medium.proofs.groups.agreeing.Tie as tie
+use Rattle.scan.proofs.groups.agreeing.Statement.{statement}
+use Rattle.scan.proofs.groups.agreeing.Tie as tie
 
 abbrev Inv-loop : tie.InvT-loop
 Inv-loop s n r j₀ a₀ j a = (j ≤ lanes) × (a ≡ checkOffset placeLayout + placeSize * j) × (validRows lanes n s ≡ j + validRows (lanes - j) (n + j) (drop (placeSize * j) s))

@@ -1,4 +1,4 @@
--- `log::truncate`. The invariant: the wipes from place n down, numbered from j on, give the result; j + n stays the same.
+-- `places::truncate`. The invariant: the wipes from place n down, numbered from j on, give the result; j + n stays the same.
 use mathlib.Core.Path.{_≡_, refl, sym, ap, _∙_}
 use Prim.Native.Nat.{_+_, _-_, _≤_}
 use lib.ListN.{length}
@@ -7,8 +7,8 @@ use Rattle.storage.specs.Operations.{wipes}
 use Rattle.storage.proofs.Wiping.{wiping-next, wiping-end}
 use native.Mathlib.Omega.{arith}
 use borrow.Author.Needs.{needs}
-use Rattle.medium.proofs.log.truncate.Statement.{statement}
-use Rattle.medium.proofs.log.truncate.Tie as tie
+use Rattle.medium.proofs.places.truncate.Statement.{statement}
+use Rattle.medium.proofs.places.truncate.Tie as tie
 
 abbrev Inv-loop : tie.InvT-loop
 Inv-loop m₀ from to given f k n₀ j₀ m n j =

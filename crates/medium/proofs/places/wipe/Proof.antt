@@ -1,8 +1,8 @@
--- `log::wipe`: the array of zeros is the definition's wiped place, which `set_place` writes.
+-- `places::wipe`: the array of zeros is the definition's wiped place, which `set_place` writes.
 use Rattle.storage.specs.Places.{wiped}
 use borrow.Author.Needs.{needs}
-use Rattle.medium.proofs.log.wipe.Statement.{statement}
-use Rattle.medium.proofs.log.wipe.Tie as tie
+use Rattle.medium.proofs.places.wipe.Statement.{statement}
+use Rattle.medium.proofs.places.wipe.Tie as tie
 
 slice-aggregate-set-place : tie.Need-slice-aggregate-set-place
 slice-aggregate-set-place c = search needs

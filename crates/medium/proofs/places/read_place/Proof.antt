@@ -1,11 +1,11 @@
--- `log::read_place`: the part copied is place n, by its offset and its size (`between-part`).
+-- `places::read_place`: the part copied is place n, by its offset and its size (`between-part`).
 use mathlib.Core.Path.{_∙_}
 use Rattle.octets.proofs.Laws.{between-part}
 use Rattle.storage.specs.Sizes.{placeOffset, placeSize}
 use Rattle.storage.specs.Log.{placeAt}
 use borrow.Author.Needs.{needs}
-use Rattle.medium.proofs.log.read_place.Statement.{statement}
-use Rattle.medium.proofs.log.read_place.Tie as tie
+use Rattle.medium.proofs.places.read_place.Statement.{statement}
+use Rattle.medium.proofs.places.read_place.Tie as tie
 
 sub-a : tie.Need-sub-a
 sub-a c = search needs

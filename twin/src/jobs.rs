@@ -76,7 +76,7 @@ fn send(count: u64) -> u64 {
 }
 
 /// One prepare that cuts a full log of 1,000 to 500; the full medium is put back before each, which
-/// counts.
+/// counts, and so does the lowest byte of the ID in its last place.
 fn prepare(count: u64) -> u64 {
     let mut cluster = filled(1000);
     let full = cluster.medium(0).to_vec();
@@ -86,7 +86,8 @@ fn prepare(count: u64) -> u64 {
     total(count, |_| {
         cluster.medium_mut(0).copy_from_slice(&full);
         cluster.records = ready;
-        make(&mut cluster, Call::Prepare { server: 1, replica: 0, message: message() })
+        let last = u64::from(cluster.medium(0)[medium::place_at(1000) + 7]);
+        last + make(&mut cluster, Call::Prepare { server: 1, replica: 0, message: message() })
     })
 }
 

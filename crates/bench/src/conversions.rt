@@ -7,6 +7,7 @@ ghost use Rattle.bench.specs.Sizes.{oldMedium, oneMedium};
 use crate::stage;
 use crate::stage::MEDIUM;
 use crate::turns;
+use converter::Converted;
 use converter::old::OLD_PLACE;
 use crc32::Tables;
 use std::num::wrapping_add_u64;
@@ -20,27 +21,28 @@ use storage::sizes::WORD;
 // An old medium of 1,000 places.
 const OLD_MEDIUM: usize = SLOTS + 1000 * OLD_PLACE;
 
-// What the check of an old place is of, and where the sequence's lower half begins in a new one.
+// An old place before its check is the bytes before the sequence and those from its lower half on, without the zeros.
 const CHECKED: usize = OLD_PLACE - CHECK;
 
 const LOWER_AT: usize = SEQUENCE_AT + WORD;
 
+const END: usize = LOWER_AT + CHECKED - SEQUENCE_AT;
+
 // The lowest byte of the ID in place 1,000.
 const ID_BYTE: usize = SLOTS + 999 * PLACE + LONG - 1;
 
-// An old place from a new one: all but the upper half of the sequence and the zeros, with its own check.
+// An old place from a new one, with its own check.
 fn put_old(t: &Tables, out: &mut [u8], p: &[u8])
     requires { ⌜ now t ≡ tablesOf ⌝ }
 {
-    let e = LOWER_AT + CHECKED - SEQUENCE_AT;
     if out.len() != OLD_PLACE {
         return;
     }
-    if p.len() < e {
+    if p.len() != PLACE {
         return;
     }
     octets::put(out, 0, &p[0..SEQUENCE_AT]);
-    octets::put(out, SEQUENCE_AT, &p[LOWER_AT..e]);
+    octets::put(out, SEQUENCE_AT, &p[LOWER_AT..END]);
     crc32::seal(t, out, CHECKED);
 }
 
@@ -79,7 +81,9 @@ fn make_old(out: &mut [u8], m: &[u8]) {
 // A byte of a slot differs from turn to turn; the other slot is the current one.
 fn convert(before: &mut [u8], after: &mut [u8], turn: u64) -> u64 {
     turns::mark_turn(before, turn);
-    converter::convert::convert(before, after);
+    let Converted::Done = converter::convert::convert(before, after) else {
+        return 0;
+    };
     wrapping_add_u64(turns::byte(after, 0), turns::byte(after, ID_BYTE))
 }
 

@@ -1,11 +1,13 @@
 // The jobs by their numbers: 0 the CRC of 64 KB, 1 the marks of seven full media, 2 the same by a scan with a product in its loop, 3 one
 // send of record 1,000 to a replica that holds 999, 4 one prepare that cuts a full log of 1,000 to 500, 5 one open over seven replicas
-// that all hold 1,000, 6 an export of 1,000 places, 7 an import of that pair into a wiped medium, 8 a conversion of an old
-// medium of 1,000 places, 9 one issue of record 501. Each sets a cluster up, and then makes its turn as often as asked. A turn changes a byte that its result does not depend on, or undoes what the
-// turn before did, which counts, so that none can be saved; each issue starts from the same records.
+// that all hold 1,000, 6 an export of 1,000 places, 7 an import of that pair into a wiped medium, 8 a conversion of an old medium of
+// 1,000 places, 9 one issue of record 501. Each sets a cluster up, and then makes its turn as often as asked. A turn changes a byte that
+// its work does not depend on, or undoes what the turn before did, which counts, so that none can be saved; each issue starts from the
+// same records.
 use crate::conversions;
 use crate::segments;
 use crate::stage;
+use crate::stage::MEDIUM;
 use crate::turns;
 use cluster::Call;
 use cluster::Closing;
@@ -82,7 +84,8 @@ fn turn(job: u64, r: Records, full: &[u8], m: &mut [u8], tables: &mut [u64]) -> 
         return issue(r, m, tables);
     }
     turns::undo(job, full, m);
-    stage::value(stage::make(r, m, tables, call(job)))
+    let before = turns::last_id(job, m);
+    wrapping_add_u64(before, stage::value(stage::make(r, m, tables, call(job))))
 }
 
 fn repeat(job: u64, r: Records, full: &[u8], m: &mut [u8], tables: &mut [u64], count: u64) -> u64 {
@@ -96,7 +99,7 @@ fn repeat(job: u64, r: Records, full: &[u8], m: &mut [u8], tables: &mut [u64], c
 }
 
 fn calls(job: u64, m: &mut [u8], tables: &mut [u64], count: u64) -> u64 {
-    let mut full = io::large_buffer();
+    let mut full = [0u8; MEDIUM];
     let filled = stage::filled(m, tables, records(job));
     turns::put_by(m, &mut full);
     let r = ready(job, filled, m, tables);

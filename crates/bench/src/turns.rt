@@ -10,6 +10,7 @@ use crate::stage::MEDIA;
 use crate::stage::MEDIUM;
 use crc32::Tables;
 use std::num::wrapping_add_u64;
+use storage::sizes::LONG;
 use storage::sizes::PLACE;
 use storage::sizes::SLOTS;
 
@@ -121,6 +122,14 @@ fn put_back(full: &[u8], m: &mut [u8]) {
     if n <= m.len() {
         octets::copy(&mut m[0..n], full);
     }
+}
+
+// The lowest byte of the ID in the first medium's last place before a prepare, which finds it whole; 0 for other jobs.
+pub fn last_id(job: u64, m: &[u8]) -> u64 {
+    if job == 4 {
+        return byte(m, LAST_PLACE + LONG - 1);
+    }
+    0
 }
 
 // Undoes what the turn before did: a send's record, or a prepare's cut. An open is done again as it is.

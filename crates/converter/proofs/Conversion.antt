@@ -1,8 +1,10 @@
 -- A valid old log reads the same through the new layout. Document 02, No. 7: "every slot and every record of the log is kept, and all other places come
 -- out wiped"; "a valid old log must read the same through the new layout".
 --
---   converts   of every old medium of N places, whatever its bytes: the converter's medium has N places, the same slots and the same current one, the same
---              mark, the same fields (the sequence as a number) and data in each place of the log, and wiped places above; so none is valid there
+--   converts        of every old medium of N places, whatever bytes it has: the converter's medium has N places, the same slots and the same current
+--                   one, the same mark, the same fields (the sequence as a number) and data in each place of the log, and wiped places above; so none is
+--                   valid there
+--   call-converts   so it is with the second slice after every call that answers ok
 -- Assumes nothing.
 use mathlib.Core.Path.{_≡_, refl, sym, ap, ap₂, _∙_, subst}
 use mathlib.Core.Bool.{Bool, true, false, cond, and-eq-true-iff}
@@ -11,23 +13,25 @@ use Prim.Native.Nat.{ℕ, zero, suc, _+_, _-_, _*_, _≤_, _<_}
 use native.Mathlib.Omega.{arith}
 use lib.Dec.{lit≤}
 use lib.ListN.{length, getD, take, drop, replicate, length-append, length-replicate, length-drop, length-map}
-use lib.Seq.{take-at, drop-at, drop-drop, take-take}
+use lib.Seq.{take-at, drop-at, drop-drop, ext-getD}
 use Rattle.octets.specs.Octets.{part, writeAt, Bytes, allZero}
-use Rattle.octets.proofs.Laws.{length-part, take-drop, part-part}
+use Rattle.octets.proofs.Laws.{length-part, part-part}
 use Rattle.octets.proofs.Reading.{bytes-part, zeros-are, zeros-zero}
 use Rattle.storage.specs.Sizes.{slotSize, slotsSize, placeSize, mediumSize}
 use Rattle.storage.specs.Places.{fieldsIn, dataOf, validPlace, wiped}
 use Rattle.storage.specs.Slots.{firstOf, secondOf, currentOf, storedSlot}
-use Rattle.storage.specs.Log.{runBy, placeAt, placesFrom, markOf, Sound}
+use Rattle.storage.specs.Log.{runBy, placeAt, placesFrom, logOf, markOf, Sound}
 use Rattle.storage.proofs.Blocks.{getD-places}
-use Rattle.storage.proofs.LogPlaces.{runBy-at}
+use Rattle.storage.proofs.LogPlaces.{runBy-at, log-place}
 use Rattle.storage.proofs.LogWrites.{wiped-invalid}
 use Rattle.storage.proofs.SlotWrites.{same-slots}
-use Rattle.storage.proofs.Filled.{AllValid, AllLong, valid-long, joined, length-joined, zero-pieces, all-wiped, Filled, filled-is}
+use Rattle.storage.proofs.Truncating.{mark-is}
+use Rattle.storage.proofs.Filled.{AllValid, valid-long, joined, zero-pieces, all-wiped, Filled, filled-is}
 use Rattle.converter.specs.Old.{oldPlaceSize, oldMediumSize, oldFields, oldData, oldValid, oldPlaceAt, oldPlacesFrom, oldLog, oldMark}
-use Rattle.converter.specs.Convert.{renewed, allRenewed, converted}
+use Rattle.converter.specs.Convert.{renewed, allRenewed, converted, ok, verdict, newMedium}
 use Rattle.converter.proofs.Converting.{mark-le, length-log}
 use Rattle.converter.proofs.OldRecords.{Renewed, renews}
+use Rattle.converter.proofs.Verdicts.{Convertible, declines}
 
 -- ================ the statement
 
@@ -38,6 +42,7 @@ pub record ReadsTheSame (N : ℕ) (m r : List ℕ) : Type 0 where
   pub current : currentOf r ≡ currentOf m
   pub stored : storedSlot r ≡ storedSlot m
   pub mark : markOf N r ≡ oldMark N m
+  pub log : logOf N r ≡ map renewed (oldLog N m)  -- each record with a check of its own
   pub fields : (n : ℕ) → 1 ≤ n → n ≤ oldMark N m → fieldsIn (placeAt n r) ≡ oldFields (oldPlaceAt n m)
   pub content : (n : ℕ) → 1 ≤ n → n ≤ oldMark N m → dataOf (placeAt n r) ≡ oldData (oldPlaceAt n m)
   pub above : (n : ℕ) → oldMark N m < n → n ≤ N → placeAt n r ≡ wiped
@@ -45,6 +50,10 @@ pub record ReadsTheSame (N : ℕ) (m r : List ℕ) : Type 0 where
 
 abbrev pub Converts : Type 0
 Converts = (N : ℕ) (m : List ℕ) → Bytes m → length m ≡ oldMediumSize N → ReadsTheSame N m (converted N m)
+
+abbrev pub CallConverts : Type 0
+CallConverts =
+    (old new : List ℕ) → Bytes old → verdict old new ≡ ok → (N : ℕ) × Convertible N old new × ReadsTheSame N old (newMedium old new)
 
 -- ================ the records of the log
 
@@ -181,11 +190,22 @@ module _ (N : ℕ) (m r : List ℕ) (b : Bytes m) (size : length m ≡ oldMedium
         ap₂ oldValid (sym q) (sym in-log) ∙ run-valid-at 1 (n - 1) (oldPlacesFrom N 1 m) (omega arith) in
         renews n (oldPlaceAt n m) (bytes-part (slotsSize + oldPlaceSize * (n - 1)) oldPlaceSize m b) v
 
-    pub same-fields : fieldsIn (placeAt n r) ≡ oldFields (oldPlaceAt n m)
+    same-fields : fieldsIn (placeAt n r) ≡ oldFields (oldPlaceAt n m)
     same-fields = ap fieldsIn place-renewed ∙ again .fields
 
-    pub same-content : dataOf (placeAt n r) ≡ oldData (oldPlaceAt n m)
+    same-content : dataOf (placeAt n r) ≡ oldData (oldPlaceAt n m)
     same-content = ap dataOf place-renewed ∙ again .content
+
+-- places that are all of a medium's mark are its log
+log-is : (N : ℕ) (ps : List (List ℕ)) (r : List ℕ) → placesFrom (length ps) 1 r ≡ ps → markOf N r ≡ length ps → logOf N r ≡ ps
+log-is N ps r e f =
+    ext-getD [] (logOf N r) ps (sym (mark-is N r) ∙ f) (λ i h. at i (omega (arith, h, mark-is N r, f)))
+  where
+    at : (i : ℕ) → i < length ps → getD (logOf N r) i [] ≡ getD ps i []
+    at i h =
+        let q : 1 + i - 1 ≡ i = omega arith in
+        ap (λ (j : ℕ). getD (logOf N r) j []) (sym q) ∙ sym (log-place N r (1 + i) (omega arith) (omega (arith, f)))
+        ∙ sym (getD-places (length ps) 1 i r h) ∙ ap (λ (l : List (List ℕ)). getD l i []) e
 
 -- ================ the proof
 
@@ -210,6 +230,7 @@ written N m b size =
       current = shown .0;
       stored = shown .1;
       mark = mark;
+      log = log-is N ps r (f .places) (f .mark valid (wiped-behind N m size));
       fields = λ n lo hi. same-fields N m r b size (f .places) n lo hi;
       content = λ n lo hi. same-content N m r b size (f .places) n lo hi;
       above = above;
@@ -218,3 +239,9 @@ written N m b size =
 
 pub converts : Converts
 converts N m b size = subst (ReadsTheSame N m) (sym (assembled N m size)) (written N m b size)
+
+pub call-converts : CallConverts
+call-converts old new b e =
+    let d = declines old new in
+    let c = d .0 .0 e in
+    (c .0, c .1, subst (ReadsTheSame (c .0) old) (sym (d .2 (c .0) (c .1))) (converts (c .0) old b (c .1 .lengths .before)))

@@ -1,9 +1,10 @@
 -- Condition 2's promises hold for the old layout too: they are the laws that the new layout has (storage proofs/PlaceLayouts), with a sequence of four
 -- bytes and no zeros before the check.
 --
---   old-read-back      an old place's record reads back as the same fields and data
+--   old-read-back      the old record of fields of the old widths (the sequence below 2^32) reads back as the same fields and data
 --   old-only-records   bytes are a valid old place n exactly if they are the old record of some fields with ID n
 --   old-sizes          the size that specs/Old names is the layout's
+--   renews             a valid old place n, written in the new layout, is a valid place n with the same fields and data
 -- Assumes nothing.
 use mathlib.Core.Path.{_≡_, refl, sym, ap, _∙_}
 use mathlib.Core.Logic.{_↔_}
@@ -11,7 +12,6 @@ use mathlib.Core.Bool.{true}
 use mathlib.Core.List.{List}
 use Prim.Native.Nat.{ℕ, _≤_}
 use native.Mathlib.Nat.{lt-of-lt-of-le}
-use native.Mathlib.Omega.{arith}
 use lib.Dec.{lit≤}
 use lib.ListN.{length}
 use Rattle.octets.specs.Octets.{Fits, Bytes}
@@ -26,8 +26,12 @@ use Rattle.converter.specs.Convert.{renewed}
 
 -- ================ the statements
 
+-- each number has its old width
+abbrev pub OldFitting : Fields → Type 0
+OldFitting f = Fits (numbersAs oldLayout f 0)
+
 abbrev pub OldReadBack : Type 0
-OldReadBack = (f : Fields) (d : List ℕ) → Fits (numbersAs oldLayout f 0) → length d ≤ dataLimit → Bytes d → place.Read oldLayout f d
+OldReadBack = (f : Fields) (d : List ℕ) → OldFitting f → length d ≤ dataLimit → Bytes d → place.Read oldLayout f d
 
 abbrev pub OldOnlyRecords : Type 0
 OldOnlyRecords = (n : ℕ) (s : List ℕ) → Bytes s → (oldValid n s ≡ true) ↔ place.Written oldLayout n s
@@ -51,7 +55,7 @@ unfolding oldValid
 old-only-records n s b = place.only-records 4 0 n s b
 
 -- numbers of the old widths have the new ones
-widened : (f : Fields) → Fits (numbersAs oldLayout f 0) → Fitting f
+widened : (f : Fields) → OldFitting f → Fitting f
 widened f h =
     record {
       id = h .0;

@@ -6,26 +6,29 @@ use mathlib.Core.Path.{_≡_, refl, sym, ap, _∙_}
 use mathlib.Core.Bool.{Bool, true, false, cond, _&&_, _||_, and-eq-true-iff}
 use mathlib.Core.List.{List}
 use mathlib.Core.Logic.{_↔_}
-use Prim.Native.Nat.{ℕ, _-_, _*_, _/_, _≤_}
+use Prim.Native.Nat.{ℕ, _-_, _≤_}
 use native.Mathlib.Omega.{arith}
 use lib.Dec.{eqb, leb}
 use lib.ListN.{length}
 use borrow.Author.Tests.{eq-eqb, le-leb, eqb-true, leb-true}
-use Rattle.storage.specs.Sizes.{slotsSize, placesLimit, mediumSize}
+use Rattle.storage.specs.Sizes.{placesLimit, mediumSize}
 use Rattle.storage.specs.Slots.{currentOf, firstOf, secondOf, validSlot, newer, slotOf, HasSlot}
-use Rattle.storage.specs.declared.slot.Current.{Current}
 use Rattle.storage.specs.declared.slot.Current.the-variants.{First, Second, Neither}
-use Rattle.converter.specs.Old.{oldPlaceSize, oldMediumSize}
+use Rattle.converter.specs.Old.{oldMediumSize}
 use Rattle.converter.specs.Convert.{Reply, ok, no, placesOf, lengthsOf, sizesFit, hasSlot, verdict, converted, ifOk, newMedium}
 
 -- ================ the statement
 
--- a second slice that an old medium can be converted into: both have the length of N places, and one of its slots is valid
-pub record Convertible (N : ℕ) (old new : List ℕ) : Type 0 where
+-- the lengths of an old medium and a new one of N places
+pub record Lengths (N old new : ℕ) : Type 0 where
   pub least : 1 ≤ N
   pub most : N ≤ placesLimit
-  pub before : length old ≡ oldMediumSize N
-  pub after : length new ≡ mediumSize N
+  pub before : old ≡ oldMediumSize N
+  pub after : new ≡ mediumSize N
+
+-- an old medium that can be converted into a second slice
+pub record Convertible (N : ℕ) (old new : List ℕ) : Type 0 where
+  pub lengths : Lengths N (length old) (length new)
   pub slot : HasSlot old
 
 abbrev pub Declines : Type 0
@@ -36,12 +39,6 @@ Declines =
     × ((N : ℕ) → Convertible N old new → newMedium old new ≡ converted N old)
 
 -- ================ the lengths
-
-pub record Lengths (N old new : ℕ) : Type 0 where
-  pub least : 1 ≤ N
-  pub most : N ≤ placesLimit
-  pub before : old ≡ oldMediumSize N
-  pub after : new ≡ mediumSize N
 
 pub lengths-are : (N old new : ℕ) → lengthsOf N old new ≡ true → Lengths N old new
 lengths-are N old new e =
@@ -80,7 +77,7 @@ kept true false n v e = let w : _≡_ {A = ℕ} 0 1 = cc in omega arith
 kept false true n v e = let w : _≡_ {A = ℕ} 0 1 = cc in omega arith
 kept false false n v e = let w : _≡_ {A = ℕ} 0 1 = cc in omega arith
 
-pub slot-iff : (m : List ℕ) → (hasSlot m ≡ true) ↔ HasSlot m
+slot-iff : (m : List ℕ) → (hasSlot m ≡ true) ↔ HasSlot m
 unfolding hasSlot currentOf
 slot-iff m = (
   kept (validSlot (firstOf m)) (validSlot (secondOf m)) (newer (slotOf (firstOf m)) (slotOf (secondOf m))),
@@ -126,12 +123,12 @@ module _ (old new : List ℕ) where
   convertible e =
       let b = and-eq-true-iff (sizesFit (length old) (length new)) (hasSlot old) .0 e in
       let l = lengths-are (placesOf (length old)) (length old) (length new) (b .0) in
-      record { least = l .least; most = l .most; before = l .before; after = l .after; slot = slot-iff old .0 (b .1) }
+      record { lengths = l; slot = slot-iff old .0 (b .1) }
 
   tests : (N : ℕ) → Convertible N old new → tested ≡ true
   tests N c =
       and-eq-true-iff (sizesFit (length old) (length new)) (hasSlot old) .1 (
-        lengths-fit N (length old) (length new) (record { least = c .least; most = c .most; before = c .before; after = c .after }),
+        lengths-fit N (length old) (length new) (c .lengths),
         slot-iff old .1 (c .slot),
       )
 
@@ -159,6 +156,6 @@ declines old new = (
   (λ e. (placesOf (length old), convertible old new (ok-only old new e)), λ c. accepted old new (tests old new (c .0) (c .1))),
   λ h. let v = declined old new (refused old new h) in (v, sym (stays old new 27 (sym v))),
   λ N c.
-      let n : N ≡ placesOf (length old) = sym (ap placesOf (c .before) ∙ places-found N) in
+      let n : N ≡ placesOf (length old) = sym (ap placesOf (c .lengths .before) ∙ places-found N) in
       sym (becomes old new N (converted N old) n (sym (accepted old new (tests old new N c))) refl),
 )

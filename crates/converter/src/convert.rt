@@ -4,7 +4,7 @@ ghost use Prim.Native.Nat.{_≤_};
 ghost use lib.ListN.{length};
 ghost use Rattle.octets.specs.Octets.{writeAt};
 ghost use Rattle.crc32.specs.Tables.{tablesOf};
-ghost use Rattle.storage.specs.Sizes.{slotsSize, placesLimit, mediumSize};
+ghost use Rattle.storage.specs.Sizes.{slotsSize, mediumSize};
 ghost use Rattle.converter.specs.Old.{oldMediumSize, oldLog, oldMark};
 ghost use Rattle.converter.specs.Convert.{placesOf, lengthsOf, hasSlot, allRenewed, converted, verdict, newMedium, replyOf};
 use crate::Converted;

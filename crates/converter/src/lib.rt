@@ -2,6 +2,9 @@
 pub mod convert;
 pub mod old;
 
+// The number by which the converter declines.
+pub const NOT_CONVERTIBLE: u64 = 27;
+
 // Done, or the lengths or the slots are not those of a medium that can be converted.
 pub enum Converted {
     Done,

@@ -13,8 +13,7 @@ pub const NUMBERS: usize = PLACE / LONG;
 pub const ENTRIES: usize = 2;
 
 // Of each server: phase, session, generation, starting, issued and acknowledged mark; the entries that take handed over; standing
-// and recorded mark of each replica; the eight held records, oldest first, each as many numbers as a place
-// has times eight bytes.
+// and recorded mark of each replica; the eight held records, oldest first, each `NUMBERS` numbers.
 pub const SERVERS: usize = 23;
 
 pub const SERVER: usize = HELD + 8 * NUMBERS;

@@ -15,8 +15,6 @@ use Rattle.octets.specs.Octets.{beOf, beBytes, Bytes}
 use Rattle.octets.proofs.Laws.{length-be}
 use Rattle.octets.proofs.Numbers.{be-back, bytes-back}
 use Rattle.octets.proofs.Bytes.{bytes-take, bytes-drop}
-use Rattle.storage.specs.Sizes.{placeSize}
-use Rattle.storage.specs.Places.{validPlace}
 use Rattle.storage.proofs.PlaceCases.{valid-tests}
 use Rattle.storage.proofs.Filled.{AllValid, AllLong}
 use Rattle.segment.specs.Records.{recordSize, placeIn, sized, isRecord, longestRecord}

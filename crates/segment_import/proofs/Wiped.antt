@@ -2,17 +2,15 @@
 -- these are: storage proofs/Filled `all-wiped`.)
 -- Assumes nothing.
 use mathlib.Core.Path.{_≡_, refl, sym, ap, _∙_}
-use mathlib.Core.Bool.{Bool, true, false, _&&_, and-eq-true-iff, and-assoc, false≢true}
-use mathlib.Core.List.{List, [], _∷_, _++_}
+use mathlib.Core.Bool.{Bool, true, false, _&&_, false≢true}
+use mathlib.Core.List.{List, [], _∷_}
 use Prim.Native.Nat.{ℕ, zero, suc, _+_, _-_, _*_, _≤_, _<_}
 use native.Mathlib.Omega.{arith}
-use lib.Dec.{eqb}
-use lib.ListN.{length, take, drop, replicate, length-drop, take-append-drop}
+use lib.ListN.{length, take, drop, length-drop}
 use lib.Seq.{drop-drop}
 use Rattle.octets.specs.Octets.{part, allZero}
-use Rattle.octets.proofs.Laws.{length-part}
-use Rattle.octets.proofs.Reading.{zeros-are, zeros-zero}
-use Rattle.storage.specs.Sizes.{slotsSize, placeSize, mediumSize, placeOffset}
+use Rattle.octets.proofs.Reading.{zeros-zero}
+use Rattle.storage.specs.Sizes.{slotsSize, placeSize, mediumSize}
 use Rattle.storage.specs.Places.{wiped}
 use Rattle.storage.specs.Log.{placeAt}
 use Rattle.storage.proofs.Filled.{zero-pieces, place-behind}

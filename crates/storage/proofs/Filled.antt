@@ -80,7 +80,7 @@ zero-append (b ∷ s) t = ap (λ (r : Bool). eqb b 0 && r) (zero-append s t) ∙
 pub zero-pieces : (i : ℕ) (s : List ℕ) → allZero s ≡ (allZero (take i s) && allZero (drop i s))
 zero-pieces i s = ap allZero (sym (take-append-drop i s)) ∙ zero-append (take i s) (drop i s)
 
-pub zero-part : (o k : ℕ) (s : List ℕ) → allZero s ≡ true → allZero (part o k s) ≡ true
+zero-part : (o k : ℕ) (s : List ℕ) → allZero s ≡ true → allZero (part o k s) ≡ true
 zero-part o k s h =
     let d = and-eq-true-iff (allZero (take o s)) (allZero (drop o s)) .0 (sym (zero-pieces o s) ∙ h) in
     and-eq-true-iff (allZero (take k (drop o s))) (allZero (drop k (drop o s))) .0 (sym (zero-pieces k (drop o s)) ∙ d .1) .0

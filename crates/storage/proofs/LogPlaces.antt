@@ -7,7 +7,7 @@ use Prim.Native.Nat.{ℕ, zero, suc, _+_, _-_, _≤_, _<_}
 use native.Mathlib.Omega.{arith}
 use lib.ListN.{length, getD}
 use Rattle.storage.specs.Places.{validPlace}
-use Rattle.storage.specs.Log.{placeAt, placesFrom, run, runBy, logOf, markOf}
+use Rattle.storage.specs.Log.{placeAt, placesFrom, runBy, logOf, markOf}
 use Rattle.storage.proofs.Scan.{mark-le}
 use Rattle.storage.proofs.Blocks.{getD-places}
 

@@ -73,7 +73,7 @@ module _ (L : Layout) where
 
 -- ================ records
 
--- a place with a sequence of w bytes, and z zeros before the check
+-- a place with a sequence of w bytes, and z zeros before the check: 8 and 4 in the journal's layout, 4 and 0 in the one before
 abbrev pub sequenced : ℕ → ℕ → Layout
 sequenced w z = record { widths = 8 ∷ 4 ∷ 4 ∷ 4 ∷ w ∷ 4 ∷ 4 ∷ []; limit = dataLimit; zeros = z }
 

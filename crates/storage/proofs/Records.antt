@@ -12,17 +12,14 @@ use mathlib.Core.Logic.{_↔_}
 use mathlib.Core.Bool.{true}
 use mathlib.Core.List.{List}
 use Prim.Native.Nat.{ℕ, _*_, _≤_}
-use native.Mathlib.Nat.{lt-of-le-of-lt}
-use native.Mathlib.Omega.{arith}
 use lib.Dec.{lit<}
-use lib.ListN.{length, getD}
-use borrow.Author.Tests.{eq-eqb}
-use Rattle.octets.specs.Octets.{numbersAt, Fits, Bytes}
+use lib.ListN.{length}
+use Rattle.octets.specs.Octets.{Fits, Bytes}
 use Rattle.storage.specs.declared.place.Fields.{Fields}
 use Rattle.storage.specs.declared.slot.Slot.{Slot}
-use Rattle.storage.specs.Layout.{layoutSize, recordOf}
+use Rattle.storage.specs.Layout.{layoutSize}
 use Rattle.storage.specs.Sizes.{placeLayout, slotLayout, dataLimit, slotSize, slotsSize, placeSize}
-use Rattle.storage.specs.Places.{placeNumbers, recordBytes, idOf, sizeOf, fieldsIn, dataOf, validPlace, Fitting}
+use Rattle.storage.specs.Places.{placeNumbers, recordBytes, sizeOf, fieldsIn, dataOf, validPlace, Fitting}
 use Rattle.storage.specs.Slots.{slotBytes, slotOf, validSlot, FittingSlot}
 use Rattle.storage.proofs.Layouts as layout
 use Rattle.storage.proofs.SlotReadBack.{slot-valid}

@@ -3,6 +3,7 @@ ghost use mathlib.Core.Path.{_≡_};
 ghost use Rattle.crc32.specs.Tables.{tablesOf};
 use crate::records;
 use converter::Converted;
+use converter::NOT_CONVERTIBLE;
 use crc32::Tables;
 use run_lines::hex;
 use run_lines::print;
@@ -34,7 +35,7 @@ pub fn convert(t: &Tables, line: &[u8]) -> bool
     with_old(t, line::field(line, 1), &mut after[0..k])
 }
 
-// The old medium, whose digits s has.
+// The old medium, whose digits s has; a part of what is lent here is lent on.
 fn with_old(t: &Tables, s: &[u8], after: &mut [u8]) -> bool
     requires { ⌜ now t ≡ tablesOf ⌝ }
 {
@@ -46,6 +47,7 @@ fn with_old(t: &Tables, s: &[u8], after: &mut [u8]) -> bool
     read_in(t, s, &mut before[0..n], after)
 }
 
+// The conversion, once the digits are read.
 fn read_in(t: &Tables, s: &[u8], before: &mut [u8], after: &mut [u8]) -> bool
     requires { ⌜ now t ≡ tablesOf ⌝ }
 {
@@ -64,7 +66,7 @@ fn reply(r: Converted) {
         Converted::Done => print::text(b"ok"),
         Converted::NotConvertible => {
             print::text(b"no");
-            print::next(27);
+            print::next(NOT_CONVERTIBLE);
         }
     }
 }

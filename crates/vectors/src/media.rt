@@ -22,7 +22,7 @@ use text::line;
 use text::number;
 use text::number::Number;
 
-// The most places of a medium whose digits fit in a line.
+// The most places of a medium: lines and answers stay small.
 const MOST: u64 = 14;
 
 // The answer to a line about a medium.

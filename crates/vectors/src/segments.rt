@@ -24,7 +24,7 @@ use text::line;
 use text::number;
 use text::number::Number;
 
-// The most places of a medium whose digits fit in a line.
+// The most places of a medium: lines and answers stay small.
 const MOST: u64 = 14;
 
 // The longest files of so many places.

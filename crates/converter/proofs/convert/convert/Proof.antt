@@ -1,11 +1,8 @@
 -- `convert::convert`: the lengths, the slots; what passes is written, and what is declined leaves the second slice.
-use mathlib.Core.Path.{_≡_, sym, ap, _∙_}
-use mathlib.Core.Bool.{true}
-use Prim.Native.Nat.{ℕ}
+use mathlib.Core.Path.{sym, _∙_}
 use lib.ListN.{length}
 use native.Mathlib.Omega.{arith}
 use borrow.Author.Tests.{not-true, not-false}
-use Rattle.converter.specs.Convert.{lengthsOf}
 use Rattle.converter.proofs.Verdicts.{lengths-are, bad-lengths, bad-slots, passes, stays, becomes}
 use borrow.Author.Needs.{needs}
 use Rattle.converter.proofs.convert.convert.Statement.{statement}

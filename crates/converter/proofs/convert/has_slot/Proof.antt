@@ -1,7 +1,6 @@
 -- `convert::has_slot`: the first is valid, or all is up to the second.
 use mathlib.Core.Path.{_≡_, sym, _∙_}
 use mathlib.Core.Bool.{true, false}
-use lib.ListN.{length}
 use Rattle.storage.specs.Slots.{validSlot, firstOf}
 use Rattle.converter.specs.Convert.{hasSlot}
 use borrow.Author.Needs.{needs}

@@ -1,11 +1,9 @@
 -- `old::renew`: what is encoded are the fields and data that are read.
 use mathlib.Core.Path.{_≡_, ap, ap₂, _∙_}
-use mathlib.Core.List.{List}
 use Prim.Native.Nat.{ℕ, _+_, _-_}
-use lib.ListN.{length, take, drop}
-use native.Mathlib.Omega.{arith}
+use lib.ListN.{take, drop}
 use Rattle.octets.specs.Octets.{part}
-use Rattle.octets.proofs.Laws.{length-between, between-part}
+use Rattle.octets.proofs.Laws.{between-part}
 use Rattle.storage.specs.Layout.{dataOffset}
 use Rattle.storage.specs.Places.{sizeAs, recordBytes}
 use Rattle.converter.specs.Old.{oldLayout, oldData}

@@ -1,15 +1,13 @@
 -- `old::valid`: each return is one of the cases of a place's validity, in the code's order (storage proofs/PlaceLayouts).
 use mathlib.Core.Path.{_≡_, sym, ap, _∙_}
-use mathlib.Core.Bool.{true, false}
-use Prim.Native.Nat.{_+_, _≤_}
-use lib.ListN.{length}
+use Prim.Native.Nat.{_≤_}
 use native.Mathlib.Omega.{arith}
 use borrow.Author.Tests.{not-true, not-false}
-use Rattle.octets.specs.Octets.{part, allZero}
-use Rattle.storage.specs.Layout.{dataOffset, numberIn}
+use Rattle.octets.specs.Octets.{allZero}
+use Rattle.storage.specs.Layout.{numberIn}
 use Rattle.storage.specs.Sizes.{dataLimit}
 use Rattle.storage.specs.Places.{sizeAs}
-use Rattle.converter.specs.Old.{oldLayout, oldPlaceSize, oldValid}
+use Rattle.converter.specs.Old.{oldLayout, oldValid}
 use Rattle.storage.proofs.PlaceLayouts.{bad-id, bad-size, bad-tail, by-check, tail-is}
 use borrow.Author.Needs.{needs}
 use Rattle.converter.proofs.old.valid.Statement.{statement}

@@ -6,10 +6,10 @@ use cluster::Call;
 use cluster::Outcome;
 use cluster::Records;
 use cluster::Shape;
+use reading_calls::export;
+use reading_calls::read;
 use replica_calls::calls;
 use replica_calls::copy;
-use replica_calls::export;
-use replica_calls::read;
 use segment::header::Stamp;
 use storage::sizes::Place;
 

@@ -4,17 +4,16 @@ use mathlib.Core.Path.{_≡_}
 use mathlib.Core.Bool.{Bool, false, not, _||_}
 use mathlib.Core.List.{List, [], _∷_}
 use lib.ListN.{length}
-use mathlib.Core.Logic.{⊎-elim}
 use Prim.Native.Nat.{ℕ, _+_, _≤_, _<_}
 use native.Mathlib.Omega.{arith}
 use lib.Dec.{eqb, leb, ltb}
-use borrow.Author.Tests.{leb-false, not-false, eqb-false, ltb-true, ltb-false}
-use Rattle.base.proofs.Tests.{lt-or-le, neither}
+use borrow.Author.Tests.{leb-false, not-false, ltb-true}
+use Rattle.base.proofs.Tests.{neither}
 use Rattle.cluster.specs.declared.Shape.{Shape}
 use Rattle.cluster.specs.declared.Server.{Server}
-use Rattle.cluster.specs.State.{markAt, holds}
+use Rattle.cluster.specs.State.{holds}
 use Rattle.cluster.proofs.Window.{within}
-use Rattle.cluster.specs.Refusals.{wrongPhase, notTwo, nothingToRead, row, replicaRows, firstOf}
+use Rattle.cluster.specs.Refusals.{wrongPhase, notTwo, row, replicaRows, firstOf}
 use Rattle.cluster.specs.declared.Records.{Records}
 use Rattle.cluster.specs.declared.Phases.{Phases}
 use Rattle.cluster.specs.State.{serverAt}
@@ -59,11 +58,3 @@ pub both-named : (r a b : ℕ) → notTwo r a b ≡ false → (a < r) × (b < r)
 both-named r a b e =
     let q = neither (leb r a) (leb r b) (neither (leb r a || leb r b) (eqb a b) e .0) in
     (leb-false r a (q .0), leb-false r b (q .1))
-
--- 16 of read: the place is one of the medium's
-pub readable : (v : Server) (i n : ℕ) → nothingToRead v i n ≡ false → (1 ≤ n) × (n ≤ markAt v i)
-readable v i n e =
-    let a = neither (eqb n 0 || ltb (markAt v i) n) (ltb (v .acked) n) e in
-    let b = neither (eqb n 0) (ltb (markAt v i) n) (a .0) in
-    let z = eqb-false n 0 (b .0) in
-    ((⊎-elim (λ (l : n < 1). absurd (z (omega arith))) (λ l. l) (lt-or-le n 1)), ltb-false (markAt v i) n (b .1))

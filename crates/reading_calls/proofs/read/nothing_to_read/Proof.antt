@@ -1,8 +1,8 @@
 -- `read::nothing_to_read`: ID 0, the replica's mark, the acknowledged mark: the definition's tests, in its order (`guards`).
 use Rattle.base.proofs.Tests.{guards}
 use borrow.Author.Needs.{needs}
-use Rattle.replica_calls.proofs.read.nothing_to_read.Statement.{statement}
-use Rattle.replica_calls.proofs.read.nothing_to_read.Tie as tie
+use Rattle.reading_calls.proofs.read.nothing_to_read.Statement.{statement}
+use Rattle.reading_calls.proofs.read.nothing_to_read.Tie as tie
 
 returns : tie.Need-returns
 returns c = search guards

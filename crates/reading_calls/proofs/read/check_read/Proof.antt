@@ -2,8 +2,8 @@
 use mathlib.Core.List.{[], _∷_}
 use Rattle.checks.proofs.Behind.{behind}
 use borrow.Author.Needs.{needs}
-use Rattle.replica_calls.proofs.read.check_read.Statement.{statement}
-use Rattle.replica_calls.proofs.read.check_read.Tie as tie
+use Rattle.reading_calls.proofs.read.check_read.Statement.{statement}
+use Rattle.reading_calls.proofs.read.check_read.Tie as tie
 
 check-message-requires : tie.Need-check-message-requires
 check-message-requires c κs = search needs

@@ -12,7 +12,6 @@ ghost use Rattle.checks.specs.Verdicts.{verdictOf};
 ghost use Rattle.checks.specs.Results.{stateOf, inputOf, resultOf};
 ghost use Rattle.delivery.specs.Hearing.{readBy};
 ghost use Rattle.delivery.specs.Messages.{Named};
-use crate::copy::place_of;
 use checks::Check;
 use checks::admit_replica;
 use checks::also;
@@ -33,6 +32,7 @@ use delivery::plan::check_message;
 use delivery::span_of;
 use fate::Fate;
 use replica::Heard;
+use replica_calls::copy::place_of;
 use servers::put_server;
 use storage::sizes::Place;
 

@@ -3,10 +3,10 @@ use native.Mathlib.Omega.{arith}
 use Rattle.cluster.specs.State.{serverAt}
 use Rattle.cluster.specs.Refusals.{readRows}
 use Rattle.checks.proofs.Frame.{refused, goes-on, holds-not}
-use Rattle.replica_calls.proofs.Known.{readable}
+use Rattle.reading_calls.proofs.Reading.{readable}
 use borrow.Author.Needs.{needs}
-use Rattle.replica_calls.proofs.read.read_admitted.Statement.{statement}
-use Rattle.replica_calls.proofs.read.read_admitted.Tie as tie
+use Rattle.reading_calls.proofs.read.read_admitted.Statement.{statement}
+use Rattle.reading_calls.proofs.read.read_admitted.Tie as tie
 
 tables-requires : tie.Need-tables-requires
 tables-requires c κs = search needs

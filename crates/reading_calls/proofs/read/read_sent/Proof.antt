@@ -2,8 +2,8 @@
 use native.Mathlib.Omega.{arith}
 use Rattle.delivery.proofs.Hearing.{lent-size, read-heard}
 use borrow.Author.Needs.{needs}
-use Rattle.replica_calls.proofs.read.read_sent.Statement.{statement}
-use Rattle.replica_calls.proofs.read.read_sent.Tie as tie
+use Rattle.reading_calls.proofs.read.read_sent.Statement.{statement}
+use Rattle.reading_calls.proofs.read.read_sent.Tie as tie
 
 mul-v : tie.Need-mul-v
 mul-v c = search needs

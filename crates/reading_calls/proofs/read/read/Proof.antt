@@ -4,11 +4,11 @@ use borrow.Author.Tests.{leb-false}
 use Rattle.cluster.specs.Refusals.{noReplicaAt, onlyOpen, replicaRows}
 use Rattle.checks.specs.Results.{stateOf}
 use Rattle.checks.proofs.Frame.{refused, goes-on}
 use Rattle.replica_calls.proofs.Known.{named, admits}
-use Rattle.replica_calls.proofs.Reading.{read-whole}
+use Rattle.reading_calls.proofs.Reading.{read-whole}
 use borrow.Author.Needs.{needs}
-use Rattle.replica_calls.proofs.read.read.Statement.{statement}
-use Rattle.replica_calls.proofs.read.read.Tie as tie
+use Rattle.reading_calls.proofs.read.read.Statement.{statement}
+use Rattle.reading_calls.proofs.read.read.Tie as tie
 
 admit-replica-requires : tie.Need-admit-replica-requires
 admit-replica-requires c κs = search needs

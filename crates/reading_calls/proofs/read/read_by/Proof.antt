@@ -2,8 +2,8 @@
 use Rattle.delivery.specs.Hearing.{readBy}
 use Rattle.delivery.proofs.Hearing.{not-read}
 use borrow.Author.Needs.{needs}
-use Rattle.replica_calls.proofs.read.read_by.Statement.{statement}
-use Rattle.replica_calls.proofs.read.read_by.Tie as tie
+use Rattle.reading_calls.proofs.read.read_by.Statement.{statement}
+use Rattle.reading_calls.proofs.read.read_by.Tie as tie
 
 mul-v : tie.Need-mul-v
 mul-v c = search needs

@@ -1,7 +1,11 @@
 /* Turns the file of an old medium into that of a new one, by journal_convert: convert OLD NEW.
  *
- * OLD is only read. NEW must not exist; it is made whole or not at all. Standard error says what is done, and why if it is not. Ends
- * with status 0 if NEW is made, 2 if the journal declines OLD, 1 for anything else. */
+ * OLD is only read. NEW must not exist; it is made whole or not at all: all is written to NEW.PID beside it, by the number of the
+ * process, and gets the name NEW when it is on the device. A run that is cut short may leave NEW.PID, which nothing needs. The file
+ * system must have hard links.
+ *
+ * Standard error says what is done, and why if it is not. Ends with status 0 if NEW is made, 2 if the journal declines OLD, 1 for
+ * anything else. */
 #define _XOPEN_SOURCE 700
 #include <errno.h>
 #include <fcntl.h>
@@ -12,6 +16,7 @@
 #include <stdio.h>
 #include <stdlib.h>
 #include <string.h>
+#include <sys/stat.h>
 #include <unistd.h>
 
 #include "journal.h"
@@ -149,35 +154,89 @@ static int fill(int file, size_t length)
     return error;
 }
 
-/* Puts the file's name on the device too, which its folder has. 0, or the number of what failed. */
+/* A name beside this one that no other process uses, to be freed; or NULL. */
+static char *part_name(const char *name)
+{
+    size_t room = strlen(name) + 24;
+    char *part = malloc(room);
+    if (part != NULL)
+        snprintf(part, room, "%s.%ld", name, (long)getpid());
+    return part;
+}
+
+static void remove_file(const char *name)
+{
+    if (unlink(name) != 0)
+        trouble(name, "cannot be removed", errno);
+}
+
+/* Makes a file that is not there yet, with the whole medium; where that fails, it is removed. */
+static int write_part(const char *part, size_t length)
+{
+    int file = open(part, O_WRONLY | O_CREAT | O_EXCL, 0666);
+    if (file < 0)
+        return trouble(part, "cannot be made", errno);
+    int error = fill(file, length);
+    if (error == 0)
+        return DONE;
+    remove_file(part);
+    return trouble(part, "cannot be written", error);
+}
+
+/* Gives the part its name, and takes the one that it has. A file that has got the name meanwhile is not replaced. */
+static int rename_part(const char *part, const char *name)
+{
+    int error = link(part, name) == 0 ? 0 : errno;
+    remove_file(part);
+    if (error == EPERM || error == EOPNOTSUPP || error == ENOSYS)
+        return trouble(name, "cannot be made without a hard link", error);
+    return error == 0 ? DONE : trouble(name, "cannot be made", error);
+}
+
+/* Puts the file's name on the device too, which its folder has; some file systems do so by themselves, and say EINVAL. Where the
+ * folder may not be read, the system does so in its own time. */
 static int sync_folder(const char *name)
 {
     char *copy = strdup(name);
     if (copy == NULL)
-        return errno;
-    int folder = open(dirname(copy), O_RDONLY);
-    int error = folder >= 0 && fsync(folder) == 0 ? 0 : errno;
+        return trouble(name, "cannot be put on the device", errno);
+    int folder = open(dirname(copy), O_RDONLY | O_DIRECTORY);
+    int unread = folder < 0 ? errno : 0;
+    int error = folder < 0 || fsync(folder) == 0 || errno == EINVAL ? 0 : errno;
     if (folder >= 0)
         close(folder);
     free(copy);
-    return error;
+    if (unread != 0)
+        trouble(name, "is whole, but its name may not be on the device yet", unread);
+    return error == 0 ? DONE : trouble(name, "cannot be put on the device", error);
 }
 
-/* Makes a file that is not there yet; a part of one is removed. */
 static int write_new(const char *name, size_t length)
 {
-    int file = open(name, O_WRONLY | O_CREAT | O_EXCL, 0666);
-    if (file < 0)
+    char *part = part_name(name);
+    if (part == NULL)
         return trouble(name, "cannot be made", errno);
-    int error = fill(file, length);
-    if (error == 0)
-        error = sync_folder(name);
-    if (error != 0) {
-        unlink(name);
-        return trouble(name, "cannot be written", error);
-    }
-    fprintf(stderr, "convert: wrote %s: %zu bytes\n", name, length);
-    return DONE;
+    int status = write_part(part, length);
+    if (status == DONE)
+        status = rename_part(part, name);
+    free(part);
+    if (status != DONE)
+        return status;
+    status = sync_folder(name);
+    if (status == DONE)
+        fprintf(stderr, "convert: wrote %s: %zu bytes\n", name, length);
+    else
+        remove_file(name);
+    return status;
+}
+
+/* Whether there is no such file yet. When the file gets its name, the system sees to it once more. */
+static int check_name(const char *name)
+{
+    struct stat there;
+    if (lstat(name, &there) == 0)
+        return trouble(name, "cannot be made", EEXIST);
+    return errno == ENOENT ? DONE : trouble(name, "cannot be made", errno);
 }
 
 int main(int count, char **words)
@@ -190,7 +249,9 @@ int main(int count, char **words)
     signal(SIGXFSZ, SIG_IGN);
     signal(SIGPIPE, SIG_IGN);
     size_t length = 0, new_length = 0;
-    int status = read_old(words[1], &length);
+    int status = check_name(words[2]);
+    if (status == DONE)
+        status = read_old(words[1], &length);
     if (status == DONE)
         status = convert(words[1], length, &new_length);
     if (status == DONE)

@@ -4,6 +4,9 @@
  * process, and gets the name NEW when it is on the device. A run that is cut short may leave NEW.PID, which nothing needs. The file
  * system must have hard links.
  *
+ * A new medium may have the length of an old one. An OLD whose place 1 is valid as one of a new medium is taken for converted, and
+ * not converted again; a new medium with an empty log cannot be told from an old one, and is.
+ *
  * Standard error says what is done, and why if it is not. Ends with status 0 if NEW is made, 2 if the journal declines OLD, 1 for
  * anything else. */
 #define _XOPEN_SOURCE 700
@@ -102,6 +105,12 @@ static int declined(const char *name, const char *bytes, bool fits)
     return DECLINED;
 }
 
+/* Whether place 1 is a valid one of a new medium. */
+static bool is_new(size_t length)
+{
+    return length >= JOURNAL_MEDIUM_BYTES(1) && journal_place_check(old_medium + JOURNAL_SLOTS_BYTES, JOURNAL_PLACE_BYTES, 1) == 1;
+}
+
 /* Whether the file is convertible is the journal's to say, also where its length fits no number of places: the second slice then is
  * one for as many as there is room for. */
 static int convert(const char *name, size_t length, size_t *new_length)
@@ -115,6 +124,10 @@ static int convert(const char *name, size_t length, size_t *new_length)
     if (fits)
         fprintf(stderr, ", %zu place%s", places, plural(places));
     fprintf(stderr, "\n");
+    if (is_new(length)) {
+        fprintf(stderr, "convert: %s has a valid place 1 of %d bytes: it has been converted already\n", name, JOURNAL_PLACE_BYTES);
+        return TROUBLE;
+    }
 
     *new_length = JOURNAL_MEDIUM_BYTES(places);
     uint64_t given = journal_convert(old_medium, length, new_medium, *new_length);

@@ -62,7 +62,8 @@ uint64_t journal_lock_place(uint64_t k, uint64_t j);
  *
  * and is valid if its ID is its number, its data length is at most 28, zeros follow the data, and the CRC-32 agrees.
  *
- * Convert while no server works on the medium.
+ * Convert while no server works on the medium, and only once: a new medium of 8 x k places, up to 888, has the length of an old one of
+ * 9 x k. It is converted as one, and its records are lost. So do not convert a medium whose place 1 journal_place_check finds valid.
  */
 uint64_t journal_convert(const uint8_t *old_medium, size_t old_length, uint8_t *new_medium, size_t new_length);
 

@@ -2,7 +2,8 @@
  *
  * Link target/staticlib/libjournal.a, which `rt staticlib journal` writes; it is for x86-64 Linux and needs no other library.
  * Only journal_convert writes to memory that it is given, and only to its second slice. No call keeps anything between calls or
- * allocates: all may be called from several threads at once. A call takes up to about 9 KiB of stack.
+ * allocates: all may be called from several threads at once. A call takes up to 9 KiB of stack; where memset is bound at its
+ * first use, the dynamic linker takes more for that.
  *
  * A slice is passed as a pointer and then its length in bytes. The pointer may be null if the length is 0, and the bytes need no
  * alignment. Nobody else writes a slice during a call.

@@ -20,6 +20,9 @@ static uint64_t compared, converted;
 /* The old medium of the next comparison, what the second slice and the bytes beside it hold before, and what they must hold after. */
 static uint8_t old_medium[OLD_ROOM], pattern[ROOM], expected_bytes[ROOM];
 
+/* The second slice of the last comparison, as the call left it. */
+static const uint8_t *given_medium;
+
 static size_t old_bytes(size_t places)
 {
     return SLOTS + OLD_PLACE * places;
@@ -50,6 +53,7 @@ static void compare(const char *what, size_t old_length, size_t new_length)
     memcpy(expected_bytes, pattern, around);
     uint64_t expected = expected_convert(old_medium, old_length, expected_bytes + BESIDE, new_length);
     uint64_t given = journal_convert(old_moved, old_length, beside + BESIDE, new_length);
+    given_medium = beside + BESIDE;
     compared++;
     converted += expected == 0;
     int same = memcmp(beside, expected_bytes, around) == 0 && memcmp(old_moved, old_medium, old_length) == 0;
@@ -63,12 +67,12 @@ static void compare_medium(const char *what, size_t places)
     compare(what, old_bytes(places), new_bytes(places));
 }
 
-/* The new medium that the last comparison expects has as many valid places as the old one's log, and those only. */
+/* The new medium that the last call wrote has as many valid places as the old one's log, and those only. */
 static void read_back(size_t places)
 {
     size_t mark = old_mark(old_medium, places);
     for (size_t n = 1; n <= places; n++) {
-        uint64_t valid = journal_place_check(expected_bytes + BESIDE + new_bytes(n - 1), PLACE, n);
+        uint64_t valid = journal_place_check(given_medium + new_bytes(n - 1), PLACE, n);
         require(valid == (n <= mark), "the new medium's log is the old one's");
     }
 }
@@ -133,7 +137,7 @@ static void by_hand(void)
     memset(expected, 0, sizeof expected);
     memcpy(expected, old_medium, SLOTS);
     put_record(expected + SLOTS, PLACE, 8, 0xC60E944B);
-    require(memcmp(expected_bytes + BESIDE, expected, sizeof expected) == 0, "a medium is converted to the one written by hand");
+    require(memcmp(given_medium, expected, sizeof expected) == 0, "a medium is converted to the one written by hand");
 }
 
 /* Logs that end at each place, and what may stand above them. */
@@ -314,7 +318,7 @@ static void twice(void)
 {
     make_medium(8, 8);
     compare_medium("once", 8);
-    memcpy(old_medium, expected_bytes + BESIDE, new_bytes(8));
+    memcpy(old_medium, given_medium, new_bytes(8));
     compare_medium("twice", 9);
     read_back(9);
     require(old_mark(old_medium, 9) == 0, "a new place is no old one");

@@ -15,7 +15,7 @@ extern uint64_t differences, failed_conditions;
 /* Counts a difference; whether it is among the first, which are shown. */
 int differs(void);
 
-/* What must hold of the inputs and of the code that the calls are compared with. */
+/* What must hold of the inputs, of the code that the calls are compared with, and of what the calls give. */
 void require(int condition, const char *what);
 
 /* The same numbers in each run. */

@@ -79,7 +79,7 @@ pub fn lock_places(lock: u64) -> [usize; 3] {
 pub fn convert(old: &[u8], new: &mut [u8]) -> Result<(), NotConvertible> {
     // SAFETY: neither pointer is null. What is lent as `&mut` is nobody else's meanwhile, so it does
     // not overlap `old`, which nobody writes. The pointer of an empty slice dangles, which is fine:
-    // the call reads and writes only if the lengths are those of a place or more.
+    // the call reads and writes only if the lengths are those of a medium of one place or more.
     let given = unsafe { journal_convert(old.as_ptr(), old.len(), new.as_mut_ptr(), new.len()) };
     converted(given)
 }

@@ -4,8 +4,8 @@
  * process, and gets the name NEW when it is on the device. A run that is cut short may leave NEW.PID, which nothing needs. The file
  * system must have hard links.
  *
- * A new medium may have the length of an old one. An OLD whose place 1 is valid as one of a new medium is taken for converted, and
- * not converted again; a new medium with an empty log cannot be told from an old one, and is.
+ * A new medium may have the length of an old one, and then the journal does not decline it. An OLD whose place 1 is valid as one of
+ * a new medium is taken for converted, and not converted again; a new medium with an empty log cannot be told from an old one, and is.
  *
  * Standard error says what is done, and why if it is not. Ends with status 0 if NEW is made, 2 if the journal declines OLD, 1 for
  * anything else. */
@@ -124,10 +124,6 @@ static int convert(const char *name, size_t length, size_t *new_length)
     if (fits)
         fprintf(stderr, ", %zu place%s", places, plural(places));
     fprintf(stderr, "\n");
-    if (is_new(length)) {
-        fprintf(stderr, "convert: %s has a valid place 1 of %d bytes: it has been converted already\n", name, JOURNAL_PLACE_BYTES);
-        return TROUBLE;
-    }
 
     *new_length = JOURNAL_MEDIUM_BYTES(places);
     uint64_t given = journal_convert(old_medium, length, new_medium, *new_length);
@@ -135,6 +131,10 @@ static int convert(const char *name, size_t length, size_t *new_length)
         return declined(name, bytes, fits);
     if (given != 0) {
         fprintf(stderr, "convert: journal_convert gives %" PRIu64 ", which no journal does\n", given);
+        return TROUBLE;
+    }
+    if (is_new(length)) {
+        fprintf(stderr, "convert: %s has a valid place 1 of %d bytes: it has been converted already\n", name, JOURNAL_PLACE_BYTES);
         return TROUBLE;
     }
     size_t records = records_in(places);

@@ -2,11 +2,10 @@
 -- how many they are, if they are valid.
 -- Assumes nothing.
 use mathlib.Core.Path.{_≡_, refl, sym, ap, ap₂, _∙_, subst}
-use mathlib.Core.Bool.{Bool, true, false, _&&_, and-eq-true-iff, and-assoc}
+use mathlib.Core.Bool.{true, false, _&&_, and-eq-true-iff}
 use mathlib.Core.List.{List, [], _∷_, _++_, append-assoc}
 use Prim.Native.Nat.{ℕ, zero, suc, _+_, _-_, _*_, _≤_, _<_}
 use native.Mathlib.Omega.{arith}
-use lib.Dec.{eqb}
 use lib.ListN.{length, take, drop, replicate, length-append, take-append-drop}
 use lib.Seq.{drop-at, drop-drop, length-take-le}
 use Rattle.octets.specs.Octets.{part, writeAt, allZero}
@@ -15,6 +14,7 @@ use Rattle.octets.proofs.Reading.{zeros-are}
 use Rattle.storage.specs.Sizes.{slotsSize, placeSize, mediumSize, placeOffset}
 use Rattle.storage.specs.Places.{validPlace, wiped}
 use Rattle.storage.specs.Log.{placeAt, placesFrom, markOf}
+use Rattle.storage.proofs.PlaceLayouts.{zero-append}
 use Rattle.storage.proofs.PlaceCases.{valid-tests}
 use Rattle.storage.proofs.LogWrites.{wiped-invalid}
 use Rattle.storage.proofs.Marks.{mark-exactly}
@@ -70,11 +70,6 @@ places-written n (p ∷ ps) m v lo h =
     ∙ ap₂ (λ (q : List ℕ) (qs : List (List ℕ)). q ∷ qs) first (places-written (n + 1) ps m₁ (v .1) (omega arith) (omega (arith, l₁)))
 
 -- ================ places that are all wiped
-
-zero-append : (s t : List ℕ) → allZero (s ++ t) ≡ (allZero s && allZero t)
-unfolding allZero
-zero-append [] t = refl
-zero-append (b ∷ s) t = ap (λ (r : Bool). eqb b 0 && r) (zero-append s t) ∙ sym (and-assoc (eqb b 0) (allZero s) (allZero t))
 
 -- both pieces of a list of zeros
 pub zero-pieces : (i : ℕ) (s : List ℕ) → allZero s ≡ (allZero (take i s) && allZero (drop i s))

@@ -1,9 +1,10 @@
 -- The cases of a place's validity in the journal's layout, and all that it says: proofs/PlaceLayouts' laws.
 -- Assumes nothing.
-use mathlib.Core.Path.{_≡_}
-use mathlib.Core.Bool.{true, false, _&&_}
+use mathlib.Core.Path.{_≡_, sym, ap, _∙_}
+use mathlib.Core.Bool.{Bool, true, false, _&&_}
 use mathlib.Core.List.{List}
 use Prim.Native.Nat.{ℕ, _+_, _-_, _<_, _≤_}
+use native.Mathlib.Omega.{arith}
 use lib.ListN.{length, take, drop}
 use Rattle.octets.specs.Octets.{part, allZero}
 use Rattle.crc32.specs.Crc32.{checked}
@@ -13,9 +14,12 @@ use Rattle.storage.specs.Places.{idOf, sizeOf, validPlace}
 use Rattle.storage.proofs.Layouts as layout
 use Rattle.storage.proofs.PlaceLayouts as any
 
--- the zeros behind the data, and those before the check
-abbrev tailOf : List ℕ → List ℕ
-tailOf s = part (dataOffset placeLayout + sizeOf s) (dataLimit + placeLayout .zeros - sizeOf s) s
+-- the zeros behind the data, up to the most data, and those before the check
+abbrev behindData : List ℕ → List ℕ
+behindData s = part (dataOffset placeLayout + sizeOf s) (dataLimit - sizeOf s) s
+
+abbrev beforeCheck : List ℕ → List ℕ
+beforeCheck s = part (dataOffset placeLayout + dataLimit) (placeLayout .zeros) s
 
 module _ (n : ℕ) (s : List ℕ) where
   pub bad-length : (length s ≡ placeSize → ⊥) → false ≡ validPlace n s
@@ -31,15 +35,25 @@ module _ (n : ℕ) (s : List ℕ) where
     unfolding validPlace sizeOf
     bad-size h = any.bad-size placeLayout n s l h
 
-    -- the zeros and the check are what is left
-    pub by-tail : sizeOf s ≤ dataLimit → idOf s ≡ n → validPlace n s ≡ (allZero (tailOf s) && checked (checkOffset placeLayout) s)
-    unfolding validPlace idOf sizeOf
-    by-tail z i = any.by-tail placeLayout n s l z i
+    module _ (z : sizeOf s ≤ dataLimit) (i : idOf s ≡ n) where
+      -- all zeros and the check are what is left
+      by-tail : validPlace n s ≡ (allZero (behindData s) && allZero (beforeCheck s) && checked (checkOffset placeLayout) s)
+      unfolding validPlace idOf sizeOf
+      by-tail = any.by-tail placeLayout n s l z i ∙ ap (λ (b : Bool). b && checked (checkOffset placeLayout) s) (any.tail-split placeLayout s z)
+
+      pub bad-tail : allZero (behindData s) ≡ false → false ≡ validPlace n s
+      bad-tail h = sym (by-tail ∙ rw h)
+
+      -- the zeros before the check, and the check
+      pub by-zeros : allZero (behindData s) ≡ true → validPlace n s ≡ (allZero (beforeCheck s) && checked (checkOffset placeLayout) s)
+      by-zeros h = by-tail ∙ rw h
 
 -- the bytes behind the data, as the code takes them
-pub tail-is : (k : ℕ) (s : List ℕ) → k ≡ sizeOf s → take (checkOffset placeLayout - (dataOffset placeLayout + k)) (drop (dataOffset placeLayout + k) s) ≡ tailOf s
-unfolding sizeOf
-tail-is k s e = any.tail-is placeLayout k s e
+pub tail-is : (k : ℕ) (s : List ℕ) → k ≡ sizeOf s
+    → take (dataOffset placeLayout + dataLimit - (dataOffset placeLayout + k)) (drop (dataOffset placeLayout + k) s) ≡ behindData s
+tail-is k s e =
+    let q : dataOffset placeLayout + dataLimit - (dataOffset placeLayout + k) ≡ dataLimit - k = omega arith in
+    ap (λ (i : ℕ). take i (drop (dataOffset placeLayout + k) s)) q ∙ ap (λ (i : ℕ). take (dataLimit - i) (drop (dataOffset placeLayout + i) s)) e
 
 pub record Tests (n : ℕ) (s : List ℕ) : Type 0 where
   pub size : length s ≡ placeSize

@@ -5,8 +5,8 @@
 --   only-records   bytes are a valid place n exactly if they are the record written for some fields with ID n
 -- Assumes nothing.
 use mathlib.Core.Path.{_≡_, refl, sym, ap, ap₂, _∙_, subst}
-use mathlib.Core.Bool.{Bool, true, false, _&&_, and-false, and-eq-true-iff}
-use mathlib.Core.List.{List, [], _∷_}
+use mathlib.Core.Bool.{Bool, true, false, _&&_, and-false, and-assoc, and-eq-true-iff}
+use mathlib.Core.List.{List, [], _∷_, _++_}
 use Prim.Native.Nat.{ℕ, _+_, _-_, _<_, _≤_}
 use mathlib.Core.Logic.{_↔_}
 use native.Mathlib.Nat.{lt-of-le-of-lt}
@@ -15,12 +15,19 @@ use lib.ListN.{length, getD, take, drop}
 use lib.Dec.{eqb, lit<}
 use borrow.Author.Tests.{eq-eqb, ne-eqb, eqb-true}
 use Rattle.octets.specs.Octets.{part, beOf, offsetOf, numbersAt, Fits, Bytes, allZero}
+use Rattle.octets.proofs.Reading.{parts-join}
 use Rattle.crc32.specs.Crc32.{checked}
 use Rattle.storage.specs.declared.place.Fields.{Fields}
 use Rattle.storage.specs.Layout.{Layout, dataOffset, checkOffset, layoutSize, recordOf, numberIn, formed}
 use Rattle.storage.specs.Sizes.{dataLimit}
 use Rattle.storage.specs.Places.{numbersAs, recordAs, fieldsAs, sizeAs, dataAs, validAs}
 use Rattle.storage.proofs.Layouts as layout
+
+-- both pieces of a list of zeros
+pub zero-append : (s t : List ℕ) → allZero (s ++ t) ≡ (allZero s && allZero t)
+unfolding allZero
+zero-append [] t = refl
+zero-append (b ∷ s) t = ap (λ (r : Bool). eqb b 0 && r) (zero-append s t) ∙ sym (and-assoc (eqb b 0) (allZero s) (allZero t))
 
 module _ (L : Layout) where
   -- the zeros behind the data
@@ -55,6 +62,19 @@ module _ (L : Layout) where
             go : (b : Bool) → allZero (tailOf s) ≡ b → validAs L n s ≡ (b && checked (checkOffset L) s)
             go true h = sym (by-check i h)
             go false h = sym (bad-tail h)
+
+  -- they are those up to the most data, and those before the check
+  pub tail-split : (s : List ℕ) → sizeAs L s ≤ L .limit
+      → allZero (tailOf s) ≡ (allZero (part (dataOffset L + sizeAs L s) (L .limit - sizeAs L s) s) && allZero (part (dataOffset L + L .limit) (L .zeros) s))
+  tail-split s h =
+      let k = sizeAs L s in
+      let o = dataOffset L in
+      let n = L .limit - k in
+      let sum : n + L .zeros ≡ L .limit + L .zeros - k = omega arith in
+      let at : o + k + n ≡ o + L .limit = omega arith in
+      ap (λ (i : ℕ). allZero (part (o + k) i s)) (sym sum) ∙ ap allZero (sym (parts-join (o + k) n (L .zeros) s))
+      ∙ zero-append (part (o + k) n s) (part (o + k + n) (L .zeros) s)
+      ∙ ap (λ (i : ℕ). allZero (part (o + k) n s) && allZero (part i (L .zeros) s)) at
 
   -- the bytes behind the data, as the code takes them
   pub tail-is : (k : ℕ) (s : List ℕ) → k ≡ sizeAs L s → take (checkOffset L - (dataOffset L + k)) (drop (dataOffset L + k) s) ≡ tailOf s

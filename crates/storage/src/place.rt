@@ -20,6 +20,7 @@ use crate::sizes::LONG;
 use crate::sizes::PARTITION_AT;
 use crate::sizes::PLACE;
 use crate::sizes::PLACE_CHECKED;
+use crate::sizes::PLACE_ZEROS_AT;
 use crate::sizes::SEQUENCE_AT;
 use crate::sizes::WORD;
 use crc32::Tables;
@@ -49,7 +50,10 @@ pub fn fields_fit(s: &[u8], n: u64) -> bool
         return false;
     }
     let k = DATA_AT + size as usize;
-    octets::all_zero(&s[k..PLACE_CHECKED])
+    if !octets::all_zero(&s[k..PLACE_ZEROS_AT]) {
+        return false;
+    }
+    octets::all_zero(&s[PLACE_ZEROS_AT..PLACE_CHECKED])
 }
 
 // Whether s is valid as place n. The check comes last, since it takes longest.

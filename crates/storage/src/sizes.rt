@@ -42,9 +42,9 @@ pub const DATA_AT: usize = LENGTH_AT + WORD;
 
 pub const DATA_LIMIT: usize = 28;
 
-pub const PLACE_ZEROS: usize = 4;
+pub const PLACE_ZEROS_AT: usize = DATA_AT + DATA_LIMIT;
 
-pub const PLACE_CHECKED: usize = DATA_AT + DATA_LIMIT + PLACE_ZEROS;
+pub const PLACE_CHECKED: usize = PLACE_ZEROS_AT + WORD;
 
 pub const PLACE: usize = PLACE_CHECKED + CHECK;
 // The most places of a medium.

@@ -9,8 +9,9 @@ use Rattle.crc32.specs.Crc32.{checked}
 use Rattle.storage.specs.Layout.{checkOffset}
 use Rattle.storage.specs.Sizes.{placeLayout, placeSize, dataLimit}
 use Rattle.storage.specs.Places.{idOf, sizeOf}
-use Rattle.storage.proofs.PlaceCases.{bad-length, bad-id, bad-size, by-tail, tail-is}
+use Rattle.storage.proofs.PlaceCases.{bad-length, bad-id, bad-size, bad-tail, by-zeros, tail-is}
 use native.Mathlib.Omega.{arith}
+use borrow.Author.Tests.{not-true, not-false}
 use borrow.Author.Needs.{needs}
 use Rattle.storage.proofs.place.fields_fit.Statement.{statement}
 use Rattle.storage.proofs.place.fields_fit.Tie as tie
@@ -78,13 +79,38 @@ all-zero-requires c κs = search needs
 returns-4 : tie.Need-returns-4
 unfolding idOf sizeOf
 returns-4 c =
-    let n = c .before .before .before .before .before .before .before .before .before .before .args .n in
-    let s = c .before .before .before .before .before .before .before .before .before .before .args .s .now in
-    let l : length s ≡ placeSize = c .before .before .before .before .before .before .before .before .if1 .left in
-    let i : idOf s ≡ n = sym (c .before .before .before .before .before .before .get-be .ensures .0) ∙ c .before .before .before .before .before .if2 .left in
-    let e : c .before .before .before .get-be2 .result ≡ sizeOf s = c .before .before .before .get-be2 .ensures .0 in
-    let z : sizeOf s ≤ dataLimit = omega (arith, e, c .before .before .if3 .left) in
-    (by-tail n s l z i ∙ ap (λ (b : Bool). b && checked (checkOffset placeLayout) s) (sym (c .all-zero .ensures ∙ ap allZero (tail-is (c .before .before .before .get-be2 .result) s e))), λ f. (l, i))
+    let n = c .before .before .before .before .before .before .before .before .before .before .before .args .n in
+    let s = c .before .before .before .before .before .before .before .before .before .before .before .args .s .now in
+    let l : length s ≡ placeSize = c .before .before .before .before .before .before .before .before .before .if1 .left in
+    let i : idOf s ≡ n = sym (c .before .before .before .before .before .before .before .get-be .ensures .0) ∙ c .before .before .before .before .before .before .if2 .left in
+    let e : c .before .before .before .before .get-be2 .result ≡ sizeOf s = c .before .before .before .before .get-be2 .ensures .0 in
+    let z : sizeOf s ≤ dataLimit = omega (arith, e, c .before .before .before .if3 .left) in
+    let tail = c .before .all-zero .ensures ∙ ap allZero (tail-is (c .before .before .before .before .get-be2 .result) s e) in
+    (sym (bad-tail n s l z i (sym tail ∙ not-true _ (c .if4 .taken))), λ f. never f)
+
+sub-all-zero-2 : tie.Need-sub-all-zero-2
+sub-all-zero-2 c = search needs
+
+part-all-zero-start-2 : tie.Need-part-all-zero-start-2
+part-all-zero-start-2 c = search needs
+
+part-all-zero-end-2 : tie.Need-part-all-zero-end-2
+part-all-zero-end-2 c = search needs
+
+all-zero-requires-2 : tie.Need-all-zero-requires-2
+all-zero-requires-2 c κs = search needs
+
+returns-5 : tie.Need-returns-5
+unfolding idOf sizeOf
+returns-5 c =
+    let n = c .before .before .before .before .before .before .before .before .before .before .before .before .before .args .n in
+    let s = c .before .before .before .before .before .before .before .before .before .before .before .before .before .args .s .now in
+    let l : length s ≡ placeSize = c .before .before .before .before .before .before .before .before .before .before .before .if1 .left in
+    let i : idOf s ≡ n = sym (c .before .before .before .before .before .before .before .before .before .get-be .ensures .0) ∙ c .before .before .before .before .before .before .before .before .if2 .left in
+    let e : c .before .before .before .before .before .before .get-be2 .result ≡ sizeOf s = c .before .before .before .before .before .before .get-be2 .ensures .0 in
+    let z : sizeOf s ≤ dataLimit = omega (arith, e, c .before .before .before .before .before .if3 .left) in
+    let tail = c .before .before .before .all-zero .ensures ∙ ap allZero (tail-is (c .before .before .before .before .before .before .get-be2 .result) s e) in
+    (by-zeros n s l z i (sym tail ∙ not-false _ (c .before .before .if4 .left)) ∙ ap (λ (b : Bool). b && checked (checkOffset placeLayout) s) (sym (c .all-zero2 .ensures)), λ f. (l, i))
 
 pub fields-fit-spec : {M : Type 1} → statement M
 fields-fit-spec =
@@ -106,4 +132,9 @@ fields-fit-spec =
     part-all-zero-start
     part-all-zero-end
     all-zero-requires
-    returns-4)
+    returns-4
+    sub-all-zero-2
+    part-all-zero-start-2
+    part-all-zero-end-2
+    all-zero-requires-2
+    returns-5)

@@ -53,7 +53,7 @@ module _ (ws : List Row) (x : State) (e : Result) (n : ℕ) (values : List ℕ) 
       false≢true (sym unmentioned ∙ declined-mentions ws n vs (d ∙ ap (λ (i : ℕ). declined i vs) same))
 
   -- a number that no row of a list has is not given by it
-  other-number : rest ws x e .reply ≡ no n values → e .reply ≡ no n values
+  pub other-number : rest ws x e .reply ≡ no n values → e .reply ≡ no n values
   unfolding unless
   other-number q = go (firstOf ws) refl q
     where

@@ -169,7 +169,7 @@ cleanAt v d i = activeAt v i && eqb (markAt v i) d
 abbrev pub tooFewClean : ℕ → Server → ℕ → Bool
 tooFewClean r v d = ltb (count (cleanAt v d) r) (quorum r)
 
--- 10 to 15, and 23 among them, are issue's. 10 "The request's generation isn't the session's"
+-- 10 to 15, and 28 and 23 among them, are issue's. 10 "The request's generation isn't the session's"
 abbrev pub otherGeneration : Server → Request → Bool
 otherGeneration v q = not (eqb (q .generation) (v .generation))
 
@@ -179,6 +179,11 @@ clientAhead v q = ltb (v .acked) (q .mark)
 
 -- 12, document 01: "Data exceed 28 bytes, or locks exceed 4", is limits specs/Limits.antt `tooMuch`, under a pair; the client's pair is handed over below, in
 -- issue's line of `checksOf`
+
+-- 28, document 02, No. 8: "Number 28 is given by issue, just after 12, when the header is 0." Of a gate's request too. "Stored ones stay readable, are copied
+-- in recovery and exported": no other condition looks at a header.
+abbrev pub headerZero : Request → Bool
+headerZero q = eqb (q .header) 0
 
 -- 13, document 02, No. 5: "Refusal 13 now means eight or more unacknowledged", in place of document 01's "The issued record isn't acknowledged yet
 -- (issue)". They are counted from the acknowledged mark; one above the issued mark, which can be handed in, leaves none unacknowledged.
@@ -288,11 +293,11 @@ seen f n b = row n (answered f && b)
 
 -- ================ the lists
 
--- "Checked in this order": the order of the numbers, which each call's own list follows (proofs/Declines); 23 is "just after 14", and the 1 of an
--- export's two files "is checked after 20"
+-- "Checked in this order": the order of the numbers, which each call's own list follows (proofs/Declines); 28 is "just after 12", 23 "just after 14",
+-- and the 1 of an export's two files "is checked after 20"
 abbrev pub order : List ℕ
 order =
-    1 ∷ 2 ∷ 3 ∷ 4 ∷ 5 ∷ 6 ∷ 7 ∷ 8 ∷ 9 ∷ 10 ∷ 11 ∷ 12 ∷ 13 ∷ 14 ∷ 23 ∷ 15 ∷ 16 ∷ 17 ∷ 18 ∷ 19 ∷ 20 ∷ 1 ∷ 21 ∷ 22 ∷ []
+    1 ∷ 2 ∷ 3 ∷ 4 ∷ 5 ∷ 6 ∷ 7 ∷ 8 ∷ 9 ∷ 10 ∷ 11 ∷ 12 ∷ 28 ∷ 13 ∷ 14 ∷ 23 ∷ 15 ∷ 16 ∷ 17 ∷ 18 ∷ 19 ∷ 20 ∷ 1 ∷ 21 ∷ 22 ∷ []
 
 -- what a call is checked for: before anything is looked at, before its message is sent, and by the receiver of the message
 pub record Checks : Type 0 where
@@ -359,6 +364,7 @@ requestRows h l v q size table locks =
     row 10 (otherGeneration v q)
     ∷ row 11 (clientAhead v q)
     ∷ row 12 (tooMuch l size (length locks))
+    ∷ row 28 (headerZero q)
     ∷ row 13 (unacknowledged v)
     ∷ row 14 (full (h .places) v)
     ∷ row 23 (checkpointDue (h .interval) v)

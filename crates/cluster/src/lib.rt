@@ -107,7 +107,7 @@ pub enum Call {
     Reassign,
 }
 
-// Why a call is declined, in the order in which it is checked (document 01's list, and document 02's number that joins it). Locked: the lock
+// Why a call is declined, in the order in which it is checked (document 01's list, and document 02's numbers that join it). Locked: the lock
 // and its estimate.
 pub enum Refusal {
     OutsideShape,
@@ -122,6 +122,7 @@ pub enum Refusal {
     OtherGeneration,
     ClientAhead,
     TooMuch,
+    HeaderZero,
     Unacknowledged,
     Full,
     CheckpointDue,

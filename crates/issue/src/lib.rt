@@ -80,6 +80,8 @@ fn judge(
         open: true,
     };
     let other = !allowed(p, phases);
+    let much = exceeds(limits, size, locks.len());
+    let zero = request.header == 0;
     let many = lags(v.acked, WINDOW, v.issued);
     let full = v.issued == shape.places;
     let due = lags(v.start, shape.interval, v.issued);
@@ -90,7 +92,8 @@ fn judge(
         Refusal::OtherGeneration,
     );
     let k = also(k, v.acked < request.mark, Refusal::ClientAhead);
-    let k = also(k, exceeds(limits, size, locks.len()), Refusal::TooMuch);
+    let k = also(k, much, Refusal::TooMuch);
+    let k = also(k, zero, Refusal::HeaderZero);
     let k = also(k, many, Refusal::Unacknowledged);
     let k = also(k, full, Refusal::Full);
     let k = also(k, due, Refusal::CheckpointDue);

@@ -59,6 +59,7 @@ pub fn number_of(why: Refusal) -> u64
         Refusal::OtherGeneration => 10,
         Refusal::ClientAhead => 11,
         Refusal::TooMuch => 12,
+        Refusal::HeaderZero => 28,
         Refusal::Unacknowledged => 13,
         Refusal::Full => 14,
         Refusal::CheckpointDue => 23,

@@ -84,7 +84,7 @@ serverAtMark n =
     }
 
 abbrev pub requestAtMark : ℕ → Request
-requestAtMark n = record { mark = n; client = 0; generation = 0; partition = 0; sequence = 0; header = 0 }
+requestAtMark n = record { mark = n; client = 0; generation = 0; partition = 0; sequence = 0; header = 1 }
 
 -- issue's own refusals, of a cluster of 1,000 places, in which a session may issue as many IDs, and a request without data, under its client's limits
 abbrev pub requestOn : ℕ → ℕ → ℕ → Verdict

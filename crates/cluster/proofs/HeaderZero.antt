@@ -1,0 +1,107 @@
+-- Number 28 (document 02, No. 8) as laws about a whole call. An issue that passes the refusals before 28 is declined by it exactly if its header is 0
+-- (`zero-exactly`). "New requests with header 0 are no longer taken": one that is given an ID has another (`taken`). No other call is ever declined by it
+-- (`only-issue`). The statements come first, then their proofs.
+-- Assumes nothing.
+use mathlib.Core.Path.{_≡_, refl}
+use mathlib.Core.Bool.{true, false}
+use mathlib.Core.Logic.{_↔_}
+use mathlib.Core.List.{List, []}
+use Prim.Native.Nat.{ℕ, _≤_}
+use native.Mathlib.Omega.{arith}
+use borrow.Author.Tests.{eqb-true, eqb-false, eq-eqb}
+use Rattle.segment.specs.declared.header.Stamp.{Stamp}
+use Rattle.segment.specs.Pair.{Files}
+use Rattle.cluster.specs.declared.Shape.{Shape}
+use Rattle.cluster.specs.declared.Request.{Request}
+use Rattle.cluster.specs.declared.Call.{Call}
+use Rattle.cluster.specs.declared.Call.the-variants as call
+use Rattle.cluster.specs.State.{State}
+use Rattle.cluster.specs.Replies.{ok, no}
+use Rattle.cluster.specs.Refusals.{Input, row, headerZero, rowsOf, pass, firstOf}
+use Rattle.cluster.specs.Step.{effect, step}
+use Rattle.cluster.proofs.Rows.{passed}
+use Rattle.cluster.proofs.Numbers.{mentions, until, beyond, other-number, given-exactly, ok-passes}
+use Rattle.cluster.proofs.Declines.{effect-never-no}
+
+-- ---- the statements
+
+abbrev making : Call → List ℕ → List ℕ → List ℕ → Stamp → Files → Input
+making c content locks given stamp files = record { call = c; content = content; locks = locks; given = given; stamp = stamp; files = files }
+
+abbrev pub ZeroExactly : Type 0
+ZeroExactly =
+    (h : Shape) (x : State) (s : ℕ) (q : Request) (content locks given : List ℕ) (stamp : Stamp) (files : Files)
+    → let p = making (call.Issue s q) content locks given stamp files in
+    firstOf (until 28 (rowsOf h x p)) ≡ pass
+    → (step h x p .reply ≡ no 28 []) ↔ (q .header ≡ 0)
+
+abbrev pub Taken : Type 0
+Taken =
+    (h : Shape) (x : State) (s : ℕ) (q : Request) (content locks given : List ℕ) (stamp : Stamp) (files : Files) (values : List ℕ)
+    → step h x (making (call.Issue s q) content locks given stamp files) .reply ≡ ok values
+    → 1 ≤ q .header
+
+-- an issue of a request with header 0
+pub record ZeroIssue (c : Call) : Type 0 where
+  pub server : ℕ
+  pub request : Request
+  pub issues : c ≡ call.Issue server request
+  pub zero : request .header ≡ 0
+
+abbrev pub OnlyIssue : Type 0
+OnlyIssue =
+    (h : Shape) (x : State) (p : Input) (values : List ℕ)
+    → step h x p .reply ≡ no 28 values
+    → ZeroIssue (p .call) × (values ≡ [])
+
+-- ---- when it is given
+
+module _ (h : Shape) (x : State) (s : ℕ) (q : Request) (content locks given : List ℕ) (stamp : Stamp) (files : Files) where
+  abbrev asked : Input
+  asked = making (call.Issue s q) content locks given stamp files
+
+  by-28 : (values : List ℕ)
+      → (step h x asked .reply ≡ no 28 values) ↔ ((firstOf (until 28 (rowsOf h x asked)) ≡ pass) × (headerZero q ≡ true) × (values ≡ []))
+  unfolding step mentions until beyond
+  by-28 values =
+      given-exactly (until 28 (rowsOf h x asked)) (row 28 (headerZero q)) (beyond 28 (rowsOf h x asked)) x (effect h x asked (asked .call)) values refl refl
+      (effect-never-no h x asked 28 values)
+
+pub zero-exactly : ZeroExactly
+zero-exactly h x s q content locks given stamp files k =
+    let row = by-28 h x s q content locks given stamp files [] in
+    (λ r. eqb-true (q .header) 0 (row .0 r .1), λ z. row .1 (k, eq-eqb (q .header) 0 z, refl))
+
+pub taken : Taken
+unfolding step
+taken h x s q content locks given stamp files values r =
+    let p = making (call.Issue s q) content locks given stamp files in
+    let all = ok-passes (rowsOf h x p) x (effect h x p (p .call)) values r in
+    omega (arith, eqb-false (q .header) 0 (passed (rowsOf h x p) all 28))
+
+-- a call whose list does not have 28 is not declined by it
+unmentioned : (h : Shape) (x : State) (p : Input) (values : List ℕ) → mentions 28 (rowsOf h x p) ≡ false → step h x p .reply ≡ no 28 values → ⊥
+unfolding step
+unmentioned h x p values e r = effect-never-no h x p 28 values (other-number (rowsOf h x p) x (effect h x p (p .call)) 28 values e r)
+
+by-issue : (h : Shape) (x : State) (content locks given : List ℕ) (stamp : Stamp) (files : Files) (values : List ℕ) (c : Call)
+    → step h x (making c content locks given stamp files) .reply ≡ no 28 values
+    → ZeroIssue c × (values ≡ [])
+unfolding mentions
+by-issue h x content locks given stamp files values (call.Issue s q) r =
+    let row = by-28 h x s q content locks given stamp files values .0 r in
+    (record { server = s; request = q; issues = refl; zero = eqb-true (q .header) 0 (row .1) }, row .2)
+by-issue h x content locks given stamp files values (call.Take s f) r = absurd (unmentioned h x _ values refl r)
+by-issue h x content locks given stamp files values (call.Prepare s i f) r = absurd (unmentioned h x _ values refl r)
+by-issue h x content locks given stamp files values (call.Copy s a b f) r = absurd (unmentioned h x _ values refl r)
+by-issue h x content locks given stamp files values (call.Trim s i f) r = absurd (unmentioned h x _ values refl r)
+by-issue h x content locks given stamp files values (call.Open s f) r = absurd (unmentioned h x _ values refl r)
+by-issue h x content locks given stamp files values (call.Send s i f) r = absurd (unmentioned h x _ values refl r)
+by-issue h x content locks given stamp files values (call.Note s i f) r = absurd (unmentioned h x _ values refl r)
+by-issue h x content locks given stamp files values (call.Read s i n f) r = absurd (unmentioned h x _ values refl r)
+by-issue h x content locks given stamp files values (call.Export s i f) r = absurd (unmentioned h x _ values refl r)
+by-issue h x content locks given stamp files values (call.Stop s) r = absurd (unmentioned h x _ values refl r)
+by-issue h x content locks given stamp files values call.Reassign r = absurd (unmentioned h x _ values refl r)
+
+pub only-issue : OnlyIssue
+only-issue h x p values r = by-issue h x (p .content) (p .locks) (p .given) (p .stamp) (p .files) values (p .call) r

@@ -42,6 +42,7 @@ mod calls;
 mod counts;
 mod export_scenes;
 mod exports;
+mod header_zero;
 mod in_flight;
 mod limits;
 mod list;
@@ -58,7 +59,8 @@ mod texts;
 use crate::random::Random;
 
 pub use counts::{Counts, CALLS};
-pub use names::{AMOUNTS, CLIENTS, ENDS, ESTIMATES, FATES, GIVEN, INTERVALS, SEQUENCES, UNSENT};
+pub use names::UNSENT;
+pub use names::{AMOUNTS, BESIDE, CLIENTS, ENDS, ESTIMATES, FATES, GIVEN, INTERVALS, SEQUENCES};
 
 /// The stored run: its lines, what they print, and what it meets.
 pub struct Run {
@@ -68,7 +70,7 @@ pub struct Run {
 }
 
 /// The seed of the stored run.
-const SEED: u64 = 1_006;
+const SEED: u64 = 1_008;
 
 /// The stored run.
 pub fn run() -> Run {

@@ -45,6 +45,7 @@ mod cases;
 mod conversions;
 mod fields;
 mod gates;
+mod header_zero;
 mod published;
 mod segments;
 mod sequences;

@@ -1,13 +1,14 @@
 //! The stored run of the replay program is what this implementation gives, and it meets every call,
 //! refusal, fate and kind of interval, gates and booking clients on both sides of their limits, locks on
-//! both sides of the client's mark, every end of an exported log, every number of records in flight, and
-//! sequences on both sides of what 32 bits hold.
+//! both sides of the client's mark, every end of an exported log, every number of records in flight,
+//! sequences on both sides of what 32 bits hold, and header 0 in requests and in records.
 
 mod stored;
 
 use twin::cluster::{first_row, FILES_ROW, ORDER};
 use twin::replay::{self, AMOUNTS, CALLS, CLIENTS, ENDS, ESTIMATES, FATES, INTERVALS, UNSENT};
-use twin::replay::{GIVEN, SEQUENCES};
+use twin::replay::{BESIDE, GIVEN, SEQUENCES};
+use twin::tries::headers::USES;
 
 /// Calls without a message, and those whose message goes to the register.
 const LOCAL: [&str; 3] = ["issue", "stop", "reassign"];
@@ -27,6 +28,7 @@ const DECLINED: [(u64, &[&str]); ORDER.len()] = [
     (10, &["issue"]),
     (11, &["issue"]),
     (12, &["issue"]),
+    (28, &["issue"]),
     (13, &["issue"]),
     (14, &["issue"]),
     (23, &["issue"]),
@@ -170,6 +172,21 @@ fn given_bytes_pass_as_either_layout() {
     let met = GIVEN.map(|name| counts.given(name));
     let [slot, place, above, old, nothing] = met;
     assert!(slot > 10 && place > 10 && above > 0 && old > 15 && nothing > 100, "{met:?}");
+}
+
+/// Requests with header 0 are declined by 28, of gates and of the booking system, also where what stands behind
+/// it declines them too; where what stands before it does, that is given. Records with it are found,
+/// copied, trimmed, opened over, sent, noted, read and exported.
+#[test]
+fn header_0_is_declined_in_requests_alone() {
+    let counts = replay::run().counts;
+    let declined = CLIENTS.map(|client| counts.zero(client));
+    assert!(declined.iter().all(|&count| count > 15), "{declined:?}");
+    assert_eq!(declined.iter().sum::<u64>(), counts.refused("issue", first_row(28)));
+    let beside = BESIDE.map(|number| counts.beside(number));
+    assert!(beside.iter().all(|&count| count > 1), "{beside:?}");
+    let met = USES.map(|name| counts.use_of_zero(name));
+    assert!(met.iter().all(|&count| count > 5), "{met:?}");
 }
 
 #[test]

@@ -2,6 +2,8 @@
 
 mod stored;
 
+use std::collections::BTreeMap;
+
 use twin::script;
 
 #[test]
@@ -16,7 +18,7 @@ fn stored_output_answers_the_stored_input() {
 fn stored_output_meets_every_refusal_in_reach() {
     let stored = stored::text("crates/script/stdout");
     let met = |number: u64| stored.lines().any(|line| line == format!("no\t{number}"));
-    let reached = [1, 3, 4, 5, 7, 8, 9, 10, 11, 12, 13, 14, 15, 16, 17, 19, 22];
+    let reached = [1, 3, 4, 5, 7, 8, 9, 10, 11, 12, 28, 13, 14, 15, 16, 17, 19, 22];
     for number in reached {
         assert!(met(number), "refusal {number}");
     }
@@ -97,6 +99,54 @@ fn stored_input_has_eight_in_flight() {
     let stored = stored::bytes("crates/script/stdin");
     assert!(stored.windows(lines.len()).any(|window| window == lines.as_bytes()));
     assert_eq!(script::run(lines.as_bytes()), replies.as_bytes());
+}
+
+/// A line with header 0 fits its form and prints `no 28` in its turn: behind 3, 5, 10, 11 and 12, before 13, 14
+/// and 15, and none is granted.
+#[test]
+fn stored_input_has_header_0_in_every_turn() {
+    let (input, output) =
+        (stored::bytes("crates/script/stdin"), stored::text("crates/script/stdout"));
+    let mut replies: BTreeMap<&str, usize> = BTreeMap::new();
+    for (line, reply) in input.split(|&byte| byte == b'\n').zip(output.lines()) {
+        let fields: Vec<&[u8]> = line.split(|&byte| byte == b'\t').collect();
+        let is_zero = |header: &[u8]| !header.is_empty() && header.iter().all(|&it| it == b'0');
+        if fields[0] == b"issue" && fields.get(4).is_some_and(|header| is_zero(header)) {
+            *replies.entry(reply).or_default() += 1;
+        }
+    }
+    let kinds: Vec<&str> = replies.keys().copied().collect();
+    assert_eq!(kinds, ["bad", "no\t10", "no\t11", "no\t12", "no\t28", "no\t3", "no\t5"]);
+    assert!(replies["no\t28"] > 10 && replies["no\t12"] > 3, "{replies:?}");
+}
+
+/// The same line with header 0 and with another one: where the other is granted or is declined by 13, 14 or
+/// 15, header 0 is declined by 28.
+#[test]
+fn stored_input_has_header_0_beside_others() {
+    let rows = [
+        ("issue 0 0 0 0 02 1", "no 28"),
+        ("issue 0 0 0 4294967295 02 1", "no 15"),
+        ("issue 0 0 0 4294967295 02", "ok 2"),
+        ("issue 0 0 0 9 09", "no 13"),
+        ("issue 0 0 0 0 09", "no 28"),
+        ("issue 0 1 0 0 09", "no 28"),
+        ("issue 0 1 0 9 09", "ok 9"),
+        ("issue 1 0 0 0 AA 7", "no 28"),
+        ("issue 1 0 0 3 AA 7", "no 15"),
+        ("issue 0 1 0 6 AA", "no 14"),
+        ("issue 0 1 0 0 AA", "no 28"),
+    ];
+    let (input, output) =
+        (stored::bytes("crates/script/stdin"), stored::text("crates/script/stdout"));
+    let lines: Vec<(&[u8], &str)> =
+        input.split(|&byte| byte == b'\n').zip(output.lines()).collect();
+    let start = lines.iter().rposition(|(line, _)| *line == b"cluster\t3\t10").expect("the list");
+    let mut rest = lines[start..].iter();
+    for (line, reply) in rows.map(|(line, reply)| (line.replace(' ', "\t"), reply)) {
+        let found = rest.find(|(other, _)| *other == line.as_bytes()).expect("the line, in order");
+        assert_eq!(found.1, reply.replace(' ', "\t"), "{line}");
+    }
 }
 
 /// Bytes that the proved program reads at once, and that it prints at once.

@@ -6,7 +6,9 @@ use std::collections::BTreeMap;
 
 use twin::crc::bitwise;
 use twin::hex;
-use twin::medium::Record;
+use twin::medium::{places, Record};
+use twin::old;
+use twin::segment::{import, Stamp};
 use twin::tries::imports::RECORD;
 use twin::tries::old_media::example;
 use twin::vectors;
@@ -89,6 +91,54 @@ fn the_worked_examples_are_among_the_lines() {
     assert_eq!(answer(&convert), format!("ok\t{:08X}", bitwise(&new)));
     let short = format!("convert\t{}\t280\t204", hex::encode(&example()[..255]));
     assert_eq!(answer(&short), format!("no\t27\t{:08X}", bitwise(&[0xCC; 280])));
+}
+
+/// The records of a line that have header 0: the one that it names, or those of its log; of an import's file all
+/// that the answer says were placed.
+fn zeros(line: &str) -> usize {
+    let fields: Vec<&str> = line.split('\t').collect();
+    let bytes = |index: usize| hex::decode(fields[index].as_bytes()).expect("bytes");
+    match fields[0] {
+        "record" => usize::from(fields[6] == "0"),
+        "place" => of_log(&[&[0; 64][..], &bytes(2)].concat()),
+        "medium" => of_log(&bytes(2)),
+        "pair" => of_log(&bytes(4)),
+        "convert" => old::log(&bytes(1)).filter(|record| record.header == 0).count(),
+        "import" => {
+            let (places, time) = (fields[1].parse().expect("N"), fields[2].parse().expect("time"));
+            let stamp = Stamp { time, key: bytes(3).try_into().expect("a key") };
+            let mut medium = bytes(4);
+            let [data, index] = [5, 6].map(bytes);
+            import(places, &mut medium, stamp, &data, &index).map_or(0, |()| of_log(&medium))
+        }
+        _ => 0,
+    }
+}
+
+/// Of a medium; a first place of any number is read too.
+fn of_log(medium: &[u8]) -> usize {
+    let record = |place| {
+        let id = &<[u8]>::first_chunk(place).expect("eight bytes");
+        Record::decode(u64::from_be_bytes(**id), place)
+    };
+    places(medium).map_while(record).filter(|record| record.header == 0).count()
+}
+
+/// "Stored ones stay readable, are copied in recovery and exported": records with header 0 are written and
+/// read, make a log, and come to a pair of files, back from one, and out of an old medium.
+#[test]
+fn records_with_header_0_are_as_any_others() {
+    let (input, output) = (vectors::input(), vectors::output(&vectors::input()));
+    let mut met: BTreeMap<&str, usize> = BTreeMap::new();
+    for (line, answer) in input.lines().zip(output.lines()).filter(|(_, answer)| *answer != "bad") {
+        let command = line.split('\t').next().expect("a word");
+        let read = command != "place" || answer.starts_with('1');
+        let done = read && !answer.starts_with("no");
+        *met.entry(command).or_default() += usize::from(done && zeros(line) > 0);
+    }
+    println!("{met:?}");
+    let all = ["record", "place", "medium", "pair", "import", "convert"];
+    assert!(all.iter().all(|command| met[command] > 5), "{met:?}");
 }
 
 /// The last lines: two records of gates, one with 13 bytes of data and one with 28, are written, are

@@ -20,7 +20,7 @@ impl Message {
 }
 
 /// What a client asks issue for.
-#[derive(Clone, Debug, Default, PartialEq, Eq)]
+#[derive(Clone, Debug, PartialEq, Eq)]
 pub struct Request {
     pub client_mark: u64,
     pub client: u32,
@@ -30,6 +30,22 @@ pub struct Request {
     pub header: u32,
     pub data: Vec<u8>,
     pub locks: Vec<u64>,
+}
+
+impl Default for Request {
+    /// The least that is taken: all is 0 but the header, which may not be (document 02, No. 8).
+    fn default() -> Request {
+        Request {
+            client_mark: 0,
+            client: 0,
+            generation: 0,
+            partition: 0,
+            sequence: 0,
+            header: 1,
+            data: Vec::new(),
+            locks: Vec::new(),
+        }
+    }
 }
 
 /// A call, with the two files that it is lent if it is an export.

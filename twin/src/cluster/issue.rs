@@ -27,13 +27,15 @@ impl Cluster {
         Ok(Answer::Number(id))
     }
 
-    /// 10 to 14, 23 and 15. 12 "reads the pair that belongs to the client". All locks are judged on the
-    /// table as it is before any is written.
+    /// 10 to 12, 28, 13, 14, 23 and 15. 12 "reads the pair that belongs to the client", and 28 "is given by
+    /// issue, just after 12, when the header is 0". All locks are judged on the table as it is before any is
+    /// written.
     fn check_request(&self, server: usize, request: &Request) -> Result<(), Refusal> {
         let record = &self.records.servers[server];
         Refusal::OtherGeneration.when(request.generation != record.generation)?;
         Refusal::ClientAhead.when(request.client_mark > record.acknowledged)?;
         Refusal::TooMuch.when(Limits::of(request.client).are_exceeded(request))?;
+        Refusal::HeaderZero.when(request.header == 0)?;
         Refusal::Unacknowledged.when(record.unacknowledged() >= HELD as u64)?;
         Refusal::Full.when(record.issued == self.shape.places)?;
         Refusal::CheckpointDue.when(self.is_checkpoint_due(server))?;

@@ -38,6 +38,8 @@ pub enum Refusal {
     ClientAhead,
     /// Data or locks, more than the client may send.
     TooMuch,
+    /// "New requests with header 0 are no longer taken" (document 02, No. 8).
+    HeaderZero,
     /// Eight or more records.
     Unacknowledged,
     Full,
@@ -63,14 +65,14 @@ pub enum Refusal {
 
 /// The rows of the list, by their numbers, in the order in which they are checked. 1 has a second row:
 /// "for an export's two files this is checked after 20".
-pub const ORDER: [u64; 24] =
-    [1, 2, 3, 4, 5, 6, 7, 8, 9, 10, 11, 12, 13, 14, 23, 15, 16, 17, 18, 19, 20, 1, 21, 22];
+pub const ORDER: [u64; 25] =
+    [1, 2, 3, 4, 5, 6, 7, 8, 9, 10, 11, 12, 28, 13, 14, 23, 15, 16, 17, 18, 19, 20, 1, 21, 22];
 
 /// The row of the lengths of export's files.
-pub const FILES_ROW: usize = 21;
+pub const FILES_ROW: usize = 22;
 
 /// The rows from that of 18 on: seen only if the message is answered.
-pub const BY_RECEIVER: RangeFrom<usize> = 18..;
+pub const BY_RECEIVER: RangeFrom<usize> = 19..;
 
 impl Refusal {
     /// Its number in document 01's list, which document 02 goes on with from 23.
@@ -88,6 +90,7 @@ impl Refusal {
             Refusal::OtherGeneration => 10,
             Refusal::ClientAhead => 11,
             Refusal::TooMuch => 12,
+            Refusal::HeaderZero => 28,
             Refusal::Unacknowledged => 13,
             Refusal::Full => 14,
             Refusal::CheckpointDue => 23,

@@ -10,6 +10,7 @@ use crate::hex;
 use crate::locks::lock_places;
 use crate::random::Random;
 use crate::tries::clients::draw_mark;
+use crate::tries::headers::draw_header;
 use crate::votes::{decided, quorum};
 
 /// Few, so that requests name the same ones.
@@ -180,8 +181,7 @@ fn issue(random: &mut Random, cluster: &Cluster, server: u64) -> Line {
     let around = draw_mark(random, cluster, there, &locks);
     let client_mark = if random.chance(30) { held.acknowledged + 1 } else { around };
     let generation = held.generation + u32::from(random.chance(30));
-    let any_word = random.word();
-    let header = *random.pick(&[0, 9, u32::MAX, any_word]);
+    let header = draw_header(random, 30);
     let length = *random.pick(&[0, 0, 1, 1, 2, 5, 27, 28]) + usize::from(random.chance(30));
     let data = digits(random, length);
     let line = Line::new("issue").number(server).number(client_mark);

@@ -1,15 +1,17 @@
 //! What a run meets: replies of each call, fates, intervals, what gates and booking clients ask for, locks
-//! around the client's mark, ends of exported logs, records in flight, sequences, and given bytes.
+//! around the client's mark, ends of exported logs, records in flight, sequences, given bytes, header 0 in
+//! requests and in records.
 
 use std::collections::BTreeMap;
 use std::fmt;
 
 use super::names::{amount_name, end_name, estimate_name, fate_name, fate_of, interval_name};
+use super::names::{beside_name, zero_name, BESIDE, GIVEN, SEQUENCES};
 use super::names::{given_name, in_flight, sent_index, sequence_name, unsent_name};
 use super::names::{AMOUNTS, CLIENTS, ENDS, ESTIMATES, FATES, INTERVALS, UNSENT};
-use super::names::{GIVEN, SEQUENCES};
 use super::texts::word;
 use crate::cluster::{Answer, Call, Cluster, Refusal, Reply, HELD, ORDER};
+use crate::tries::headers::{use_of_zero, USES};
 
 pub const CALLS: [&str; 12] = [
     "take", "prepare", "copy", "trim", "open", "issue", "send", "note", "read", "export", "stop",
@@ -43,6 +45,12 @@ pub struct Counts {
     sequences: BTreeMap<&'static str, u64>,
     /// Torn writes asked for, by what the given bytes pass as.
     given: BTreeMap<&'static str, u64>,
+    /// Requests declined by 28, by the kind of client.
+    zeros: BTreeMap<&'static str, u64>,
+    /// Requests with header 0, by what else declines them.
+    beside: BTreeMap<&'static str, u64>,
+    /// What answered calls did with records that have header 0.
+    uses: BTreeMap<&'static str, u64>,
     /// Whether issue was declined with 23 since the last state was handed in or session opened.
     due: bool,
     /// Sessions opened after that.
@@ -94,6 +102,15 @@ impl Counts {
         }
         if let Some(name) = given_name(cluster, call) {
             *self.given.entry(name).or_default() += 1;
+        }
+        if let Some(name) = zero_name(call, reply) {
+            *self.zeros.entry(name).or_default() += 1;
+        }
+        if let Some(name) = beside_name(cluster, call, reply) {
+            *self.beside.entry(name).or_default() += 1;
+        }
+        if let Some(name) = use_of_zero(cluster, call, reply) {
+            *self.uses.entry(name).or_default() += 1;
         }
     }
 
@@ -190,6 +207,21 @@ impl Counts {
         self.given.get(name).copied().unwrap_or(0)
     }
 
+    /// How many requests of this kind of client were declined by 28.
+    pub fn zero(&self, client: &str) -> u64 {
+        self.zeros.get(client).copied().unwrap_or(0)
+    }
+
+    /// How many requests with header 0 were such that this number declines them too; 28 if it alone does.
+    pub fn beside(&self, number: &str) -> u64 {
+        self.beside.get(number).copied().unwrap_or(0)
+    }
+
+    /// How often this was done with a record that has header 0, or with a log that has one.
+    pub fn use_of_zero(&self, name: &str) -> u64 {
+        self.uses.get(name).copied().unwrap_or(0)
+    }
+
     /// How many sessions were opened on a cluster where issue had been declined with 23 since the
     /// one before.
     pub fn forced(&self) -> u64 {
@@ -203,7 +235,7 @@ impl Counts {
 
 /// A table of replies by call, in which 1 stands once more behind 20 (the lengths of export's files); one
 /// of fates and one of K by call, one of what clients ask for, one of estimates, one of ends, one of
-/// sequences, one of given bytes, what was in flight and held, and the writes that were cut.
+/// sequences, one of given bytes, three of header 0, what was in flight and held, and the writes that were cut.
 impl fmt::Display for Counts {
     fn fmt(&self, f: &mut fmt::Formatter<'_>) -> fmt::Result {
         write!(f, "{:9}{:>6}{:>7}", "call", "ok", "silent")?;
@@ -223,6 +255,9 @@ impl fmt::Display for Counts {
         write_table(f, "unsent", "send", &UNSENT, |name| self.unsent(name))?;
         write_table(f, "sequence", "issue", &SEQUENCES, |name| self.sequence(name))?;
         write_table(f, "given", "torn", &GIVEN, |name| self.given(name))?;
+        write_table(f, "header 0", "issue", &CLIENTS, |name| self.zero(name))?;
+        write_table(f, "header 0", "beside", &BESIDE, |name| self.beside(name))?;
+        write_table(f, "header 0", "record", &USES, |name| self.use_of_zero(name))?;
         writeln!(f)?;
         write!(f, "\nissued with 0 to 7 in flight {:?}", self.in_flight)?;
         write!(f, "\nsent from index 0 to 7 {:?}", self.sent)?;

@@ -9,6 +9,7 @@ use crate::medium::{place_at, put, Record, DATA_LIMIT, PLACE_BYTES, SLOT_BYTES, 
 use crate::random::Random;
 use crate::tries::exports::{draw_export, exact_lengths};
 use crate::tries::faults::{faults_of, with_faults, Fault};
+use crate::tries::headers::draw_stored_header;
 use crate::tries::records::draw_sequence;
 use crate::tries::scene::{record_bytes, Scene, EXACT, EXPORTED, PLACES, REPLICA, SERVER};
 
@@ -119,8 +120,9 @@ fn with_marks(scene: &Scene, mark: u64, acknowledged: u64) -> Scene {
 /// Records with so much data each, from place 1 on.
 fn put_records(random: &mut Random, scene: &mut Scene, sizes: &[usize]) {
     for (id, &size) in (1..).zip(sizes) {
-        let [client, generation, partition, header] = [(); 4].map(|_| top(random));
-        let (sequence, data) = (draw_sequence(random), &random.bytes(size));
+        let [client, generation, partition] = [(); 3].map(|_| top(random));
+        let (sequence, header) = (draw_sequence(random), draw_stored_header(random));
+        let data = &random.bytes(size);
         let record = Record { id, client, generation, partition, sequence, header, data };
         put(scene.medium(), place_at(id), &record.encode());
     }

@@ -1,17 +1,14 @@
 //! Gates and booking clients (document 02, No. 6): a list call by call, requests around the limits of
 //! either pair, and records that no gate may send any more and that no call but issue knows of.
 
-use super::calls::{check, copy, message, number, open, prepare, send, take};
+use super::calls::{check, copy, look, message, open, open_all, prepare, send, take};
 use super::recorder::Recorder;
 use super::scenes::try_scene;
 use crate::cluster::{Answer, Call, Limits, Refusal, Request, Shape, BOOKING, GATE, HELD};
 use crate::medium::{PlaceBytes, Record};
-use crate::segment::Pair;
-use crate::tries::exports::exact_lengths;
 use crate::tries::faults::{faults_of, with_faults};
-use crate::tries::imports::STAMP;
 use crate::tries::limits::{Wish, CLIENTS, DATA, LOCKS};
-use crate::tries::scene::{Scene, SERVER, UNWRITTEN};
+use crate::tries::scene::{Scene, SERVER};
 
 /// Booking clients whose lower bytes are those of a gate, and the least with the top bit.
 const BY_UPPER_BITS: [u32; 3] = [1 << 8, 1 << 16, 1 << 31];
@@ -31,15 +28,6 @@ pub fn list(recorder: &mut Recorder) {
         (issue(0, 0, u32::MAX, 29, &[]), Err(12)),
     ];
     check(recorder, requests);
-}
-
-/// Server 0 opens session 1 with three empty replicas.
-fn open_all(recorder: &mut Recorder) {
-    assert_eq!(number(recorder, &take(0)), Ok(1));
-    for replica in 0..3 {
-        assert_eq!(number(recorder, &prepare(0, replica)), Ok(0));
-    }
-    assert_eq!(number(recorder, &open(0)), Ok(0));
 }
 
 fn issue(server: u64, client_mark: u64, client: u32, data: usize, locks: &[u64]) -> Call {
@@ -124,16 +112,4 @@ fn long_ago(recorder: &mut Recorder) {
     look(recorder, 1, 2, &records[..2]);
     let requests = [(issue(1, 2, 50, 20, &[]), Err(12)), (issue(1, 2, 50, 12, &[6]), Ok(3))];
     check(recorder, requests);
-}
-
-/// These are read from the replica, and exported.
-fn look(recorder: &mut Recorder, server: u64, replica: u64, records: &[PlaceBytes]) {
-    for (id, record) in (1..).zip(records) {
-        let read = Call::Read { server, replica, id, message: message() };
-        assert_eq!(recorder.call(&read), Ok(Answer::Bytes(*record)));
-    }
-    let lengths = exact_lengths(recorder.cluster(), server, replica);
-    let files = Pair::filled(lengths, UNWRITTEN);
-    let export = Call::Export { server, replica, stamp: STAMP, files, message: message() };
-    assert_eq!(recorder.call(&export), Ok(Answer::Nothing));
 }

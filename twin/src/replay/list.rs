@@ -1,12 +1,15 @@
 //! The list of states and calls of a run.
 
 use super::recorder::Recorder;
-use super::{exports, in_flight, limits, locks, random_states, scenes, sequences, Run};
+use super::{
+    exports, header_zero, in_flight, limits, locks, random_states, scenes, sequences, Run,
+};
 use crate::cluster::{Call, Cluster, Shape};
 use crate::fate::Fate;
 use crate::hex;
 use crate::random::Random;
 use crate::tries::caller::Caller;
+use crate::tries::headers::with_headers;
 use crate::tries::scene::record_bytes;
 use crate::tries::useful;
 
@@ -38,11 +41,15 @@ pub fn replay(random: &mut Random) -> Run {
     in_flight::list(&mut recorder);
     limits::list(&mut recorder);
     sequences::list(&mut recorder);
+    header_zero::list(&mut recorder);
     limits::replay(&mut recorder);
     scenes::replay(&mut recorder, random);
     in_flight::replay(&mut recorder);
-    for (replicas, places, interval) in (0..LISTS).flat_map(|_| SHAPES) {
-        list(&mut recorder, random, Shape { replicas, places, interval });
+    for number in 0..LISTS {
+        for (replicas, places, interval) in SHAPES {
+            let shape = Shape { replicas, places, interval };
+            list(&mut recorder, random, shape, number == 0);
+        }
     }
     random_states::replay(&mut recorder, random);
     recorder.finish()
@@ -114,12 +121,22 @@ fn any_interval(recorder: &mut Recorder) {
     }
 }
 
-/// Calls that get somewhere, from a fresh cluster; fewer where the log is soon full.
-fn list(recorder: &mut Recorder, random: &mut Random, shape: Shape) {
+/// Calls that get somewhere, from a fresh cluster; fewer where the log is soon full. Under a release before,
+/// a part of what the first half stored and held had header 0.
+fn list(recorder: &mut Recorder, random: &mut Random, shape: Shape, begun_before: bool) {
     recorder.fresh(shape);
     let caller = Caller::new(random);
     let calls = if shape.places < 5 { 70 } else { 130 };
-    for _ in 0..calls {
+    for number in 0..calls {
+        if begun_before && number == calls / 2 {
+            recorder.hand_in(with_headers(recorder.cluster(), |record| {
+                if record.id % 2 == 0 {
+                    0
+                } else {
+                    record.header
+                }
+            }));
+        }
         let call = useful::next_call(random, &caller, recorder.cluster());
         let _ = recorder.call(&call);
     }

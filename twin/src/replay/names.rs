@@ -1,6 +1,6 @@
 //! What a call is counted as: its fate, K beside N, how much a client asks for, its locks beside the
 //! client's mark, the end of what it exports, records in flight, which held record it sends or why none,
-//! its sequence, what its given bytes pass as.
+//! its sequence, what its given bytes pass as, whose header 0 is declined.
 
 use std::cmp::Ordering;
 
@@ -40,6 +40,10 @@ pub const SEQUENCES: [&str; 6] = ["0", "< 2^32 - 1", "2^32 - 1", "2^32", "> 2^32
 
 /// What the given bytes of a torn write pass as. The first two are declined by 6.
 pub const GIVEN: [&str; 5] = ["slot", "place", "above N", "old place", "nothing"];
+
+/// What else is the matter with a request of header 0, in issue's order; "28" stands for nothing else. Those
+/// before 28 are given in its place, and it is given in that of those behind.
+pub const BESIDE: [&str; 8] = ["10", "11", "12", "28", "13", "14", "23", "15"];
 
 pub fn fate_of(call: &Call) -> Option<Fate> {
     match call {
@@ -87,12 +91,42 @@ pub fn amount_name(call: &Call, reply: &Reply) -> Option<(&'static str, &'static
     let (Call::Issue { request, .. }, Ok(_) | Err(Refusal::TooMuch)) = (call, reply) else {
         return None;
     };
-    let kind = usize::from(Limits::of(request.client) != GATE);
     let amount = match exceeded(BOOKING, request) {
         0 => exceeded(GATE, request),
         above => 3 + above,
     };
-    Some((CLIENTS[kind], AMOUNTS[amount]))
+    Some((client_name(request.client), AMOUNTS[amount]))
+}
+
+fn client_name(client: u32) -> &'static str {
+    CLIENTS[usize::from(Limits::of(client) != GATE)]
+}
+
+/// `None` unless the request has header 0 and is declined for it or for one of these.
+pub fn beside_name(cluster: &Cluster, call: &Call, reply: &Reply) -> Option<&'static str> {
+    let (Call::Issue { server, request }, Err(refusal)) = (call, reply) else {
+        return None;
+    };
+    let other = Request { header: 1, ..request.clone() };
+    let number = match refusal {
+        _ if request.header != 0 => return None,
+        Refusal::HeaderZero => {
+            let declined = cluster.clone().issue(*server, &other).err();
+            declined.unwrap_or(Refusal::HeaderZero).number()
+        }
+        before => before.number(),
+    };
+    BESIDE.into_iter().find(|name| *name == number.to_string())
+}
+
+/// The kind of client whose header 0 is declined.
+pub fn zero_name(call: &Call, reply: &Reply) -> Option<&'static str> {
+    match (call, reply) {
+        (Call::Issue { request, .. }, Err(Refusal::HeaderZero)) => {
+            Some(client_name(request.client))
+        }
+        _ => None,
+    }
 }
 
 /// 1 for data, 2 for locks, 3 for both; 0 for neither.

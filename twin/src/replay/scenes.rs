@@ -4,7 +4,7 @@
 use std::ops::RangeInclusive;
 
 use super::recorder::Recorder;
-use super::{export_scenes, limits, locks, sequences};
+use super::{export_scenes, header_zero, limits, locks, sequences};
 use crate::cluster::{Call, Entry, Message, Standing};
 use crate::fate::{Fate, Left};
 use crate::medium::{
@@ -37,9 +37,13 @@ fn particular(recorder: &mut Recorder, random: &mut Random, scene: &Scene) {
         }
         Kind::OpeningCopy => joined(recorder, scene),
         Kind::Trim => cut_each(recorder, random, scene, 1..=3),
-        Kind::GateIssue => limits::in_place(recorder, scene),
+        Kind::GateIssue => {
+            limits::in_place(recorder, scene);
+            header_zero::in_place(recorder, scene);
+        }
         Kind::BookingIssue => {
             limits::in_place(recorder, scene);
+            header_zero::in_place(recorder, scene);
             locks::replay(recorder, random, scene);
             ahead(recorder, scene);
             Checkpoint::all().for_each(|checkpoint| try_scene(recorder, checkpoint.scene()));

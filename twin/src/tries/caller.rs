@@ -2,6 +2,7 @@
 
 use super::clients::draw_mark;
 use super::exports::draw_export;
+use super::headers::draw_header;
 use super::limits::{draw_client, draw_count, draw_data};
 use super::records::draw_sequence;
 use crate::cluster::{Call, Cluster, Message, Phase, Request, Server, Standing};
@@ -180,7 +181,7 @@ fn draw_usable(random: &mut Random, cluster: &Cluster, server: u64) -> u64 {
 }
 
 /// Few locks, so that they collide, and clients of either kind that have read just as much as is asked of
-/// them, or a little less.
+/// them, or a little less. Few have header 0.
 fn draw_request(random: &mut Random, cluster: &Cluster, server: u64) -> Request {
     let record = &cluster.records.servers[server as usize];
     let client = draw_client(random);
@@ -199,7 +200,7 @@ fn draw_request(random: &mut Random, cluster: &Cluster, server: u64) -> Request 
         client,
         generation: record.generation + u32::from(random.chance(40)),
         sequence: draw_sequence(random),
-        header: random.below(3) as u32,
+        header: draw_header(random, 40),
         data,
         locks,
         ..Request::default()

@@ -227,6 +227,7 @@ fn requests() -> Vec<Fault> {
         fault(12, "a gate with two locks", &[GateIssue], |scene| scene.request().locks.push(9)),
         fault(12, "29 bytes", &[BookingIssue], |scene| scene.request().data.push(0)),
         fault(12, "five locks", &[BookingIssue], |scene| scene.request().locks.push(9)),
+        fault(28, "header 0", ISSUES, |scene| scene.request().header = 0),
         fault(13, "eight unacknowledged", ISSUES, |scene| unacknowledged(scene, 8)),
         fault(13, "nine unacknowledged", ISSUES, |scene| unacknowledged(scene, 9)),
         fault(14, "full", ISSUES, |scene| {

@@ -1,6 +1,7 @@
 //! Old media to convert (document 02, No. 7), each with a name: whole logs, damaged ones, and bytes that
 //! are no old medium.
 
+use super::headers::draw_stored_header;
 use super::imports::plain;
 use super::records::{draw_sequence, SEQUENCES, TOPS};
 use crate::medium::{
@@ -50,9 +51,10 @@ fn slot(promise: u64, low: u64, local: u64) -> SlotBytes {
     Slot { promise, low, local }.encode()
 }
 
-/// A record with this ID and this data, and any other fields; its sequence has 32 bits.
+/// A record with this ID and this data, and any other fields, header 0 often; its sequence has 32 bits.
 pub fn draw_old_record<'a>(random: &mut Random, id: u64, data: &'a [u8]) -> Record<'a> {
-    let [client, generation, partition, header] = [(); 4].map(|_| random.word());
+    let [client, generation, partition] = [(); 3].map(|_| random.word());
+    let header = draw_stored_header(random);
     let sequence = u64::from(draw_sequence(random) as u32);
     Record { id, client, generation, partition, sequence, header, data }
 }

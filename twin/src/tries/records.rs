@@ -1,5 +1,6 @@
 //! Records with any fields, and requests with any sequence (document 02, No. 7).
 
+use super::headers::draw_stored_header;
 use crate::medium::{Record, DATA_LIMIT};
 use crate::random::Random;
 
@@ -25,8 +26,9 @@ pub fn draw_sequence(random: &mut Random) -> u64 {
     *random.pick(&[edge, edge, any, any >> 32])
 }
 
-/// A record with this ID and this data, and any other fields.
+/// A record with this ID and this data, and any other fields, header 0 often.
 pub fn draw_record<'a>(random: &mut Random, id: u64, data: &'a [u8]) -> Record<'a> {
-    let [client, generation, partition, header] = [(); 4].map(|_| random.word());
-    Record { id, client, generation, partition, sequence: draw_sequence(random), header, data }
+    let [client, generation, partition] = [(); 3].map(|_| random.word());
+    let (sequence, header) = (draw_sequence(random), draw_stored_header(random));
+    Record { id, client, generation, partition, sequence, header, data }
 }

@@ -33,6 +33,10 @@ pub const UNWRITTEN: u8 = 0xAA;
 /// The sequence of every record and of issue's requests: more than 32 bits hold.
 const SEQUENCE: u64 = (1 << 32) + 4;
 
+/// The header of the records whose IDs are odd. The others have 0, which issue does not take any more: it is
+/// they that the scenes' calls read, write and wipe.
+const HEADER: u32 = 5;
+
 /// The data of every record.
 const DATA: &[u8] = b"six";
 
@@ -166,7 +170,8 @@ pub fn set_tables(cluster: &mut Cluster, own: u64, others: u64) {
 }
 
 pub fn record_bytes(id: u64) -> PlaceBytes {
-    let (client, generation, partition, header) = (1, 2, 3, 5);
+    let (client, generation, partition) = (1, 2, 3);
+    let header = if id % 2 == 0 { 0 } else { HEADER };
     Record { id, client, generation, partition, sequence: SEQUENCE, header, data: DATA }.encode()
 }
 

@@ -2,6 +2,7 @@
 
 use super::clients::draw_mark;
 use super::exports::draw_export;
+use super::headers::draw_header;
 use super::limits::{draw_client, draw_count, draw_data};
 use super::records::draw_sequence;
 use super::scene::record_bytes;
@@ -173,6 +174,7 @@ impl Draw<'_> {
             client,
             generation: u32::from(self.random.chance(9)),
             sequence: draw_sequence(self.random),
+            header: draw_header(self.random, 9),
             data,
             locks,
             ..Request::default()

@@ -4,6 +4,7 @@
 use super::caller::{is_spent, Caller};
 use super::clients::draw_mark;
 use super::exports::draw_export;
+use super::headers::draw_header;
 use super::limits::{draw_client, draw_count, draw_data};
 use super::records::draw_sequence;
 use crate::cluster::{Call, Cluster, Phase, Request, Server, Standing, HELD};
@@ -199,7 +200,7 @@ impl Useful<'_> {
 
     /// Few locks, or more of them so that some were never written, and clients of either kind that have
     /// read just as much as is asked of them, or a little less. Nobody has read what is in flight, so
-    /// that then most ask for none.
+    /// that then most ask for none. Few have header 0.
     fn request(&self, random: &mut Random) -> Request {
         let client = draw_client(random);
         let data = if random.chance(3) { draw_data(random, client) } else { Vec::new() };
@@ -215,7 +216,7 @@ impl Useful<'_> {
             generation: self.record.generation,
             partition: random.below(4) as u32,
             sequence: draw_sequence(random),
-            header: random.word(),
+            header: draw_header(random, 40),
             data,
             locks,
         }

@@ -2,7 +2,7 @@
 //! a fixed seed.
 
 use super::texts::{place_line, record_line};
-use super::{conversions, gates, segments, sequences, LINE_LIMIT, PUBLISHED};
+use super::{conversions, gates, header_zero, segments, sequences, LINE_LIMIT, PUBLISHED};
 use crate::crc::crc32;
 use crate::hex;
 use crate::medium::{
@@ -32,7 +32,8 @@ pub fn input() -> String {
         cases.line(line);
     }
     cases.log_ends();
-    for lines in [sequences::lines(), conversions::lines(), gates::lines()] {
+    let groups = [sequences::lines(), conversions::lines(), header_zero::lines(), gates::lines()];
+    for lines in groups {
         lines.into_iter().for_each(|line| cases.line(line));
     }
     cases.lines

@@ -28,7 +28,7 @@ pub fn lines() -> Vec<String> {
     lines
 }
 
-fn line(old: &[u8], length: usize, fill: u8) -> String {
+pub fn line(old: &[u8], length: usize, fill: u8) -> String {
     format!("convert\t{}\t{length}\t{fill}", hex::encode(old))
 }
 

@@ -125,7 +125,7 @@ fn issue_declines_exactly_if_eight_or_more_are_unacknowledged() {
 
 /// The record that the scene's issue makes under this ID.
 fn issued_bytes(id: u64) -> PlaceBytes {
-    let (client, generation, partition, sequence, header) = (0, GENERATION, 0, 0, 0);
+    let (client, generation, partition, sequence, header) = (0, GENERATION, 0, 0, 1);
     let data = &[0xF1];
     Record { id, client, generation, partition, sequence, header, data }.encode()
 }

@@ -20,7 +20,7 @@ fn scripts() -> impl Iterator<Item = Script> {
 /// and after silence 7 comes first. Not 21: that takes 2^64 - 1 takes, and reassign has no form. Not
 /// 23: the script's K is N, so that much is issued beyond a starting mark only if issued = N, and
 /// 14 comes first.
-const MET: [u64; 17] = [1, 3, 4, 5, 7, 8, 9, 10, 11, 12, 13, 14, 15, 16, 17, 19, 22];
+const MET: [u64; 18] = [1, 3, 4, 5, 7, 8, 9, 10, 11, 12, 28, 13, 14, 15, 16, 17, 19, 22];
 
 #[test]
 fn every_kind_of_reply() {
@@ -34,6 +34,7 @@ fn every_kind_of_reply() {
     assert_eq!(met, expected.collect());
     let fitting = counts.lines - counts.replies[&Kind::Bad];
     assert!(counts.replies[&Kind::Ok] * 3 > fitting, "few calls get somewhere: {counts}");
+    assert!(counts.replies[&Kind::No(28)] > 100, "{counts}");
 }
 
 #[test]

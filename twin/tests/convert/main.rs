@@ -2,6 +2,7 @@
 
 mod draw;
 mod files;
+mod header_zero;
 mod rules;
 mod unread;
 mod words;

@@ -1,8 +1,9 @@
 //! Lists whose media were converted on the way (document 02, No. 7): up to then no sequence is above 32
-//! bits; all servers are stopped, each medium is put as the release before would have held it, converted,
-//! and the list goes on from there, with longer sequences too. The three conclusions hold over the whole
-//! list. "The converter is in no list": it must not be seen.
+//! bits, and requests with header 0 are taken (No. 8); all servers are stopped, each medium is put as the
+//! release before would have held it, converted, and the list goes on from there, with longer sequences too.
+//! The three conclusions hold over the whole list. "The converter is in no list": it must not be seen.
 
+use crate::header_zero::{before, next_call_before};
 use crate::history::History;
 use crate::{assert_within_interval, List, Met, CALLS, LISTS};
 use twin::cluster::{Answer, Call, Cluster, Message, SERVERS};
@@ -21,6 +22,8 @@ struct Converted {
     /// Media with a log, and with bytes that are no record.
     logs: u64,
     torn: u64,
+    /// Media whose log has a record with header 0.
+    with_zero: u64,
     /// Servers that were stopped with records in flight.
     in_flight: u64,
     /// Lists that issued a sequence of more than 32 bits afterwards.
@@ -73,6 +76,7 @@ fn convert_all(list: &mut List, by: Converter, met: &mut Met, converted: &mut Co
         let mut new = vec![0xCC; medium_bytes(list.shape.places as usize)];
         by(&as_before(medium), &mut new).expect("a valid slot");
         converted.logs += u64::from(mark(medium) > 0);
+        converted.with_zero += u64::from(log(medium).any(|record| record.header == 0));
         let behind = places(medium).skip(mark(medium) as usize);
         converted.torn += u64::from(behind.into_iter().any(|place| place != WIPED));
         medium.copy_from_slice(&new);
@@ -87,6 +91,7 @@ fn without_torn(mut medium: Vec<u8>) -> Vec<u8> {
     medium
 }
 
+/// `met` is what the calls meet after the conversion.
 fn run_converted(
     random: &mut Random,
     by: Converter,
@@ -95,25 +100,36 @@ fn run_converted(
 ) -> List {
     let mut list = List::new(random);
     let moment = random.below(CALLS as u64) as usize;
-    let mut opened = 0;
+    let (mut earlier, mut opened) = (Met::default(), 0);
     for number in 0..CALLS {
         if number == moment {
             if random.chance(2) {
-                tear_all(&mut list, met);
+                tear_all(&mut list, &mut earlier);
             }
             opened = list.history.opened().len();
             converted.acknowledged += u64::from(acknowledged(&list.history) > 0);
-            convert_all(&mut list, by, met, converted);
+            convert_all(&mut list, by, &mut earlier, converted);
         }
-        let mut call = list.next_call(random);
-        if let (Call::Issue { request, .. }, true) = (&mut call, number < moment) {
-            request.sequence = u64::from(request.sequence as u32);
+        if number < moment {
+            let call = old_call(&list, random);
+            list.call(call, before, &mut earlier);
+        } else {
+            let call = list.next_call(random);
+            list.call(call, Cluster::apply, met);
         }
-        list.call(call, Cluster::apply, met);
     }
     converted.both += u64::from(opened > 0 && list.history.opened().len() > opened);
     converted.longer += u64::from(has_longer(&list.cluster));
     list
+}
+
+/// A call as it was made before: with a sequence of 32 bits, and often with header 0.
+fn old_call(list: &List, random: &mut Random) -> Call {
+    let mut call = next_call_before(list, random);
+    if let Call::Issue { request, .. } = &mut call {
+        request.sequence = u64::from(request.sequence as u32);
+    }
+    call
 }
 
 fn acknowledged(history: &History) -> u64 {
@@ -123,10 +139,12 @@ fn acknowledged(history: &History) -> u64 {
 /// Whether a replica's log has a sequence of more than 32 bits.
 fn has_longer(cluster: &Cluster) -> bool {
     let media = (0..cluster.shape.replicas as usize).map(|replica| cluster.medium(replica));
-    media.into_iter().any(|medium| {
-        let log = places(medium).take(mark(medium) as usize);
-        log.into_iter().any(|place| Record::of_valid(place).sequence > u64::from(u32::MAX))
-    })
+    media.into_iter().any(|medium| log(medium).any(|it| it.sequence > u64::from(u32::MAX)))
+}
+
+/// The records of a medium's log.
+fn log(medium: &[u8]) -> impl Iterator<Item = Record<'_>> {
+    places(medium).take(mark(medium) as usize).map(Record::of_valid)
 }
 
 #[test]
@@ -138,12 +156,15 @@ fn later_sessions_keep_what_was_acknowledged_before_the_conversion() {
         list.history.check();
         assert_within_interval(&list.history, list.shape.interval);
     }
-    println!("{converted:?}");
+    println!("{converted:?} {:?}", met.zeros);
     assert!(converted.both > LISTS / 2, "{converted:?}");
     assert!(converted.acknowledged > LISTS / 2, "{converted:?}");
     assert!(converted.logs > LISTS && converted.torn > LISTS / 20, "{converted:?}");
     assert!(converted.in_flight > LISTS / 4, "{converted:?}");
     assert!(converted.longer > LISTS / 4, "{converted:?}");
+    assert!(converted.with_zero > LISTS, "{converted:?}");
+    met.zeros.assert_met(LISTS);
+    assert_eq!(met.zeros.sent(), 0, "all servers were stopped");
 }
 
 /// It leaves every slot and every log as it was, to the byte, and wipes what is behind.
@@ -154,11 +175,8 @@ fn a_cluster_is_the_same_after_it() {
         let random = &mut Random::new(2_000_000 + seed);
         let mut list = List::new(random);
         for _ in 0..random.below(CALLS as u64) {
-            let mut call = list.next_call(random);
-            if let Call::Issue { request, .. } = &mut call {
-                request.sequence = u64::from(request.sequence as u32);
-            }
-            list.call(call, Cluster::apply, &mut met);
+            let call = old_call(&list, random);
+            list.call(call, before, &mut met);
         }
         tear_all(&mut list, &mut met);
         let mut expected = list.cluster.clone();

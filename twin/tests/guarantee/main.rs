@@ -1,10 +1,11 @@
 //! The guarantee between sessions, on long random lists of calls from fresh clusters: every fate, a
 //! cut at any write, old servers that go on talking, sessions that the interval ends, servers stopped
 //! or overtaken with records in flight, gates and booking clients, exports; and on lists whose media were
-//! converted on the way.
+//! converted on the way, and that store what the release before took, header 0 among it.
 
 mod conversions;
 mod exports;
+mod header_zero;
 mod history;
 mod in_flight;
 mod lenient;
@@ -12,6 +13,7 @@ mod limits;
 
 use std::collections::{BTreeMap, BTreeSet};
 
+use header_zero::Zeros;
 use history::History;
 use in_flight::InFlight;
 use limits::Clients;
@@ -51,6 +53,7 @@ struct Met {
     unheld: u64,
     in_flight: InFlight,
     clients: Clients,
+    zeros: Zeros,
 }
 
 impl Met {
@@ -155,7 +158,12 @@ impl List {
         }
     }
 
-    fn call(&mut self, mut call: Call, apply: Apply, met: &mut Met) {
+    /// Makes a call, which may be declined.
+    fn call(&mut self, call: Call, apply: Apply, met: &mut Met) {
+        let _ = self.reply_to(call, apply, met);
+    }
+
+    fn reply_to(&mut self, mut call: Call, apply: Apply, met: &mut Met) -> Reply {
         let List { cluster, history, due, .. } = self;
         let (before, lent) = (cluster.clone(), call.clone());
         let reply = apply(cluster, &mut call);
@@ -168,9 +176,11 @@ impl List {
         due.extend(due_session(history, &before, &call, &reply));
         met.in_flight.count_call(&before, &call, &reply);
         met.clients.check(&before, &call, &reply, cluster);
+        met.zeros.count_call(&before, &call, &reply);
         let newest = history.opened().keys().next_back().copied();
         history.add(&before, &call, &reply, cluster);
         met.in_flight.count_open(history, newest);
+        reply
     }
 }
 
@@ -208,6 +218,7 @@ fn later_sessions_keep_what_earlier_ones_acknowledged() {
     assert!(met.exported > 2 * LISTS);
     assert!(met.dropped > LISTS / 4);
     assert!(met.refusals[&FILES_ROW] > LISTS / 4);
+    assert!(met.refused(28) > LISTS / 4);
     assert!(met.refused(13) > LISTS / 4);
     assert!(met.unheld > LISTS);
     met.in_flight.assert_met(LISTS);

@@ -8,17 +8,18 @@ use mathlib.Core.Path.{_≡_, refl, sym, ap, _∙_}
 use mathlib.Core.Bool.{Bool, true, false, _&&_, cond}
 use mathlib.Core.Logic.{_⊎_, inl, inr}
 use mathlib.Core.List.{List, [], _∷_}
-use Prim.Native.Nat.{ℕ, zero, suc, _+_, _^_, _≤_, _<_}
-use lib.ListN.{length}
+use Prim.Native.Nat.{ℕ, zero, suc, _+_, _*_, _^_, _≤_, _<_}
+use native.Mathlib.Omega.{arith}
+use lib.ListN.{length, take, drop, length-take, drop-of-length-le}
 use lib.Dec.{eqb}
-use Rattle.base.proofs.Tests.{both}
+use Rattle.base.proofs.Tests.{both, lt-or-le}
 use Rattle.octets.specs.Octets.{Bytes}
 use Rattle.fate.specs.declared.Fate.{Fate}
 use Rattle.storage.specs.declared.place.Fields.{Fields}
 use Rattle.storage.specs.declared.slot.Current.{Current}
 use Rattle.storage.specs.declared.slot.Current.the-variants.{First, Second, Neither}
 use Rattle.storage.specs.Layout.{numberIn, formed}
-use Rattle.storage.specs.Sizes.{placeLayout, dataLimit}
+use Rattle.storage.specs.Sizes.{placeLayout, dataLimit, placeSize, mediumSize, placeOffset}
 use Rattle.storage.specs.Places.{recordBytes, sizeAs, sizeOf, fieldsIn, validPlace, Fitting}
 use Rattle.storage.specs.Slots.{slotOf, currentOf, heldOf, storedSlot}
 use Rattle.storage.specs.Slots as slots
@@ -52,15 +53,18 @@ pub record Reheaded (a b : List ℕ) : Type 0 where
   pub one : a ≡ recordBytes fields content
   pub other : b ≡ recordBytes (withHeader fields header) content
 
--- the same slots, and in each place the same bytes or another header; there is nothing above the last place of either
-pub record SameMedium (a b : List ℕ) : Type 0 where
+abbrev pub SamePlace : List ℕ → List ℕ → Type 0
+SamePlace a b = (a ≡ b) ⊎ Reheaded a b
+
+-- of N places: the same slots, and in each place the same bytes or another header
+pub record SameMedium (N : ℕ) (a b : List ℕ) : Type 0 where
   pub first : slots.firstOf a ≡ slots.firstOf b
   pub second : slots.secondOf a ≡ slots.secondOf b
-  pub places : (n : ℕ) → (placeAt n a ≡ placeAt n b) ⊎ Reheaded (placeAt n a) (placeAt n b)
+  pub places : (n : ℕ) → 1 ≤ n → n ≤ N → SamePlace (placeAt n a) (placeAt n b)
 
 pub record SameMedia (N : ℕ) (a b : List ℕ) : Type 0 where
   pub size : length a ≡ length b
-  pub each : (i : ℕ) → SameMedium (mediumAt N i a) (mediumAt N i b)
+  pub each : (i : ℕ) → SameMedium N (mediumAt N i a) (mediumAt N i b)
 
 abbrev pub HeaderBlind : Type 0
 HeaderBlind =
@@ -128,39 +132,61 @@ one-more : (t : Bool) (p q : List ℕ) (ps qs : List (List ℕ)) → length ps �
 one-more true p q ps qs e = ap suc e
 one-more false p q ps qs e = refl
 
-module _ (a b : List ℕ) (S : SameMedium a b) where
-  valid-same : (n : ℕ) → validPlace n (placeAt n a) ≡ validPlace n (placeAt n b)
-  valid-same n = go (S .places n)
+-- above its last place a medium has nothing
+beyond : (N i n : ℕ) (media : List ℕ) → N < n → placeAt n (mediumAt N i media) ≡ []
+unfolding placeAt
+beyond N i n media l =
+    let m = mediumAt N i media in
+    let short : length m ≤ placeOffset n = omega (arith, l, length-take (mediumSize N) (drop (i * mediumSize N) media)) in
+    ap (take placeSize) (drop-of-length-le m short)
+
+-- medium i of the two lots
+module _ (N i : ℕ) (one other : List ℕ) (S : SameMedium N (mediumAt N i one) (mediumAt N i other)) where
+  abbrev a : List ℕ
+  a = mediumAt N i one
+
+  abbrev b : List ℕ
+  b = mediumAt N i other
+
+  place-same : (n : ℕ) → 1 ≤ n → SamePlace (placeAt n a) (placeAt n b)
+  place-same n l = go (lt-or-le N n)
     where
-      go : (placeAt n a ≡ placeAt n b) ⊎ Reheaded (placeAt n a) (placeAt n b) → validPlace n (placeAt n a) ≡ validPlace n (placeAt n b)
+      go : (N < n) ⊎ (n ≤ N) → SamePlace (placeAt n a) (placeAt n b)
+      go (inl m) = inl (beyond N i n one m ∙ sym (beyond N i n other m))
+      go (inr m) = S .places n l m
+
+  valid-same : (n : ℕ) → 1 ≤ n → validPlace n (placeAt n a) ≡ validPlace n (placeAt n b)
+  valid-same n l = go (place-same n l)
+    where
+      go : SamePlace (placeAt n a) (placeAt n b) → validPlace n (placeAt n a) ≡ validPlace n (placeAt n b)
       go (inl e) = ap (validPlace n) e
       go (inr r) = reheaded-valid _ _ r n
 
-  size-same : (n : ℕ) → sizeOf (placeAt n a) ≡ sizeOf (placeAt n b)
-  size-same n = go (S .places n)
+  size-same : (n : ℕ) → 1 ≤ n → sizeOf (placeAt n a) ≡ sizeOf (placeAt n b)
+  size-same n l = go (place-same n l)
     where
-      go : (placeAt n a ≡ placeAt n b) ⊎ Reheaded (placeAt n a) (placeAt n b) → sizeOf (placeAt n a) ≡ sizeOf (placeAt n b)
+      go : SamePlace (placeAt n a) (placeAt n b) → sizeOf (placeAt n a) ≡ sizeOf (placeAt n b)
       go (inl e) = ap sizeOf e
       go (inr r) = reheaded-size _ _ r
 
-  run-same : (k n : ℕ) → length (run n (placesFrom k n a)) ≡ length (run n (placesFrom k n b))
+  run-same : (k n : ℕ) → 1 ≤ n → length (run n (placesFrom k n a)) ≡ length (run n (placesFrom k n b))
   unfolding placesFrom runBy
-  run-same zero n = refl
-  run-same (suc k) n = rw (valid-same n) (one-more (validPlace n (placeAt n b)) _ _ _ _ (run-same k (n + 1)))
+  run-same zero n l = refl
+  run-same (suc k) n l = rw (valid-same n l) (one-more (validPlace n (placeAt n b)) _ _ _ _ (run-same k (n + 1) (omega arith)))
 
-  mark-same : (N : ℕ) → markOf N a ≡ markOf N b
+  mark-same : markOf N a ≡ markOf N b
   unfolding markOf logOf
-  mark-same N = run-same N 1
+  mark-same = run-same N 1 (omega arith)
 
   count-same : (k n : ℕ) → length (placesFrom k n a) ≡ length (placesFrom k n b)
   unfolding placesFrom
   count-same zero n = refl
   count-same (suc k) n = ap suc (count-same k (n + 1))
 
-  records-same : (k n : ℕ) → recordsSize (placesFrom k n a) ≡ recordsSize (placesFrom k n b)
+  records-same : (k n : ℕ) → 1 ≤ n → recordsSize (placesFrom k n a) ≡ recordsSize (placesFrom k n b)
   unfolding placesFrom recordsSize recordSize
-  records-same zero n = refl
-  records-same (suc k) n = rw (size-same n, records-same k (n + 1))
+  records-same zero n l = refl
+  records-same (suc k) n l = rw (size-same n l, records-same k (n + 1) (omega arith))
 
   current-same : currentOf a ≡ currentOf b
   unfolding currentOf
@@ -189,13 +215,13 @@ module _ (a b : List ℕ) (S : SameMedium a b) where
   unfolding promiseDiffers
   promise-differs session = rw slot-same
 
-  mark-differs : (N recorded : ℕ) → markDiffers N recorded a ≡ markDiffers N recorded b
+  mark-differs : (recorded : ℕ) → markDiffers N recorded a ≡ markDiffers N recorded b
   unfolding markDiffers
-  mark-differs N recorded = rw (mark-same N)
+  mark-differs recorded = rw mark-same
 
   other-sizes : (k : ℕ) (files : Files) → otherSizes (placesFrom k 1 a) files ≡ otherSizes (placesFrom k 1 b) files
   unfolding otherSizes
-  other-sizes k files = rw (records-same k 1, count-same k 1)
+  other-sizes k files = rw (records-same k 1 (omega arith), count-same k 1)
 
 -- ---- a call
 
@@ -208,19 +234,19 @@ module _ (h : Shape) (x : State) (media : List ℕ) (p : Input) (S : SameMedia (
 
   rows-same : (c : Call) → Alike c
   rows-same (call.Take s f) = rw (S .size)
-  rows-same (call.Prepare s i f) = let m = S .each i in rw (S .size, no-slot _ _ m, promise-above _ _ m _)
+  rows-same (call.Prepare s i f) = let m = S .each i in rw (S .size, no-slot _ _ _ _ m, promise-above _ _ _ _ m _)
   rows-same (call.Copy s a b f) =
       let m = S .each a in
       let n = S .each b in
-      rw (S .size, no-slot _ _ m, promise-differs _ _ m _, mark-differs _ _ m _ _, no-slot _ _ n, promise-differs _ _ n _, mark-differs _ _ n _ _)
-  rows-same (call.Trim s i f) = let m = S .each i in rw (S .size, no-slot _ _ m, promise-differs _ _ m _, mark-differs _ _ m _ _)
+      rw (S .size, no-slot _ _ _ _ m, promise-differs _ _ _ _ m _, mark-differs _ _ _ _ m _, no-slot _ _ _ _ n, promise-differs _ _ _ _ n _, mark-differs _ _ _ _ n _)
+  rows-same (call.Trim s i f) = let m = S .each i in rw (S .size, no-slot _ _ _ _ m, promise-differs _ _ _ _ m _, mark-differs _ _ _ _ m _)
   rows-same (call.Open s f) = rw (S .size)
   rows-same (call.Issue s q) = rw (S .size)
-  rows-same (call.Send s i f) = let m = S .each i in rw (S .size, no-slot _ _ m, promise-differs _ _ m _, mark-differs _ _ m _ _)
-  rows-same (call.Note s i f) = let m = S .each i in rw (S .size, no-slot _ _ m, promise-differs _ _ m _, mark-differs _ _ m _ _)
-  rows-same (call.Read s i n f) = let m = S .each i in rw (S .size, no-slot _ _ m, promise-differs _ _ m _, mark-differs _ _ m _ _)
+  rows-same (call.Send s i f) = let m = S .each i in rw (S .size, no-slot _ _ _ _ m, promise-differs _ _ _ _ m _, mark-differs _ _ _ _ m _)
+  rows-same (call.Note s i f) = let m = S .each i in rw (S .size, no-slot _ _ _ _ m, promise-differs _ _ _ _ m _, mark-differs _ _ _ _ m _)
+  rows-same (call.Read s i n f) = let m = S .each i in rw (S .size, no-slot _ _ _ _ m, promise-differs _ _ _ _ m _, mark-differs _ _ _ _ m _)
   rows-same (call.Export s i f) =
-      let m = S .each i in rw (S .size, no-slot _ _ m, promise-differs _ _ m _, mark-differs _ _ m _ _, other-sizes _ _ m _ _)
+      let m = S .each i in rw (S .size, no-slot _ _ _ _ m, promise-differs _ _ _ _ m _, mark-differs _ _ _ _ m _, other-sizes _ _ _ _ m _ _)
   rows-same (call.Stop s) = rw (S .size)
   rows-same call.Reassign = rw (S .size)
 

@@ -22,9 +22,9 @@ use Rattle.cluster.specs.Refusals.{Input}
 use Rattle.cluster.specs.Step.{step}
 use Rattle.checks.specs.Results.{resultOf}
 use Rattle.lines.specs.declared.forms.Line.the-variants as line
-use Rattle.lines.specs.declared.replies.Printed.the-variants as printed
 use Rattle.lines.specs.Forms.{Meaning, bad, cluster, asked, lineOf, dataOf, locksOf}
-use Rattle.lines.specs.Texts.{textOf, replyText}
+use Rattle.replies.specs.declared.Printed.the-variants as printed
+use Rattle.replies.specs.Texts.{textOf, replyText}
 use Rattle.interpreter.specs.declared.answer.Held.{Held}
 use Rattle.interpreter.specs.Shapes.{accepted}
 use Rattle.interpreter.specs.Answers.{afterOf, unchanged, clusterOf, holding, scripted, clusterLine, inputOf, replied, callLine, answerTo, nothing}

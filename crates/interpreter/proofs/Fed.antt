@@ -13,9 +13,8 @@ use borrow.Author.Tests.{eq-eqb, ne-eqb}
 use Rattle.base.proofs.Tests.{lt-or-le}
 use Rattle.bytes.specs.Bytes.{indexAfter, indexOf, slice}
 use Rattle.octets.specs.Octets.{writeAt}
-use Rattle.lines.specs.Words.{newline}
 use Rattle.lines.specs.Forms.{meaningOf}
-use Rattle.lines.specs.Texts.{textOf}
+use Rattle.replies.specs.Texts.{newline, textOf}
 use Rattle.interpreter.specs.declared.answer.Held.{Held}
 use Rattle.interpreter.specs.Shapes.{lineRoom}
 use Rattle.interpreter.specs.declared.answer.Next.{Next}

@@ -5,8 +5,8 @@ use mathlib.Core.Bool.{Bool, true, false, cond}
 use mathlib.Core.List.{List, [], _∷_, _++_, append-assoc, append-nil}
 use Prim.Native.Nat.{ℕ}
 use lib.Dec.{eqb}
-use Rattle.lines.specs.Words.{newline}
 use Rattle.lines.specs.Forms.{meaningOf}
+use Rattle.replies.specs.Texts.{newline}
 use Rattle.interpreter.specs.Answers.{After, answerTo}
 use Rattle.interpreter.specs.Input.{Program, grown, ended, fed, emptied}
 

@@ -14,9 +14,9 @@ use Rattle.cluster.specs.Refusals.{Input}
 use Rattle.cluster.specs.Effects.{Result}
 use Rattle.cluster.specs.Step.{step}
 use Rattle.checks.specs.Results.{noFiles, noStamp}
-use Rattle.lines.specs.declared.replies.Printed.the-variants as printed
 use Rattle.lines.specs.Forms.{Meaning, bad, cluster, asked}
-use Rattle.lines.specs.Texts.{textOf, replyText}
+use Rattle.replies.specs.declared.Printed.the-variants as printed
+use Rattle.replies.specs.Texts.{textOf, replyText}
 use Rattle.interpreter.specs.declared.answer.Held.{Held}
 use Rattle.interpreter.specs.declared.answer.Next.{Next}
 use Rattle.interpreter.specs.Shapes.{accepted}

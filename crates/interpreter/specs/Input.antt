@@ -6,8 +6,8 @@ use mathlib.Core.List.{List, [], _∷_, _++_}
 use Prim.Native.Nat.{ℕ}
 use lib.Dec.{eqb}
 use lib.ListN.{length, take, replicate}
-use Rattle.lines.specs.Words.{newline}
 use Rattle.lines.specs.Forms.{meaningOf}
+use Rattle.replies.specs.Texts.{newline}
 use Rattle.interpreter.specs.declared.answer.Held.{Held}
 use Rattle.interpreter.specs.Shapes.{lineRoom, mediaLimit, tablesLength}
 use Rattle.interpreter.specs.Answers.{After, nothing, answerTo}

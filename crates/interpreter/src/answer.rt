@@ -16,7 +16,7 @@ use cluster::Shape;
 use crc32::Tables;
 use lines::forms;
 use lines::forms::Line;
-use lines::replies::Printed;
+use replies::Printed;
 use segment::header::Stamp;
 use storage::sizes::PLACE;
 use storage::sizes::SLOTS;

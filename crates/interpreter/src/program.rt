@@ -5,7 +5,7 @@ ghost use Prim.Native.Nat.{_+_, _*_, _≤_};
 ghost use lib.ListN.{length};
 ghost use Rattle.octets.specs.Octets.{writeAt};
 ghost use Rattle.crc32.specs.Tables.{tablesOf};
-ghost use Rattle.lines.specs.Texts.{textOf};
+ghost use Rattle.replies.specs.Texts.{textOf};
 ghost use Rattle.interpreter.specs.Shapes.{lineRoom, outLimit, Lent};
 ghost use Rattle.interpreter.specs.Answers.{nothing};
 ghost use Rattle.interpreter.specs.Input.{ended, fed, closed, programOf};
@@ -14,8 +14,7 @@ use crate::answer::Held;
 use crate::input;
 use cluster::Records;
 use crc32::Tables;
-use lines::replies;
-use lines::replies::LONGEST;
+use replies::LONGEST;
 
 // The program between two pieces of input: how many bytes of a line are held, how many of the replies are not written yet, the
 // cluster.

@@ -1,21 +1,15 @@
--- The counts that a call's line answers are within the buffers, and a reply within its longest.
+-- The counts that a call's line answers are within the buffers.
 -- Assumes nothing.
 use mathlib.Core.Path.{_≡_, ap}
-use mathlib.Core.List.{List, [], _∷_}
+use mathlib.Core.List.{List}
 use Prim.Native.Nat.{ℕ, _≤_}
 use native.Mathlib.Omega.{arith}
 use lib.ListN.{length, length-append}
 use Rattle.octets.specs.Octets.{writeAt}
 use Rattle.cluster.specs.declared.Call.{Call}
-use Rattle.cluster.specs.declared.Answer.the-variants as answer
-use Rattle.cluster.specs.Replies.{numberOf}
-use Rattle.lines.specs.declared.replies.Printed.{Printed}
-use Rattle.lines.specs.declared.replies.Printed.the-variants as printed
 use Rattle.lines.specs.declared.forms.Line.{Line}
 use Rattle.lines.specs.declared.forms.Line.the-variants as line
 use Rattle.lines.specs.Forms.{Meaning, bad, cluster, asked, lineOf, dataOf, locksOf}
-use Rattle.text.proofs.Decimals.{spelled-few}
-use Rattle.lines.specs.Texts.{tagged, textOf}
 
 -- a write is no longer than what it leaves
 write-within : (a l e : List ℕ) → e ≡ writeAt 0 a l → length a ≤ length e
@@ -29,15 +23,3 @@ counted (asked c′ ds ls) r c d k x y u v e g =
     let p : d ≡ length ds = cc (e, g .0) in
     let q : k ≡ length ls = cc (e, g .0) in
     (omega (arith, write-within ds x y (g .1 .0)), omega (arith, write-within ls u v (g .1 .1)))
-
--- ---- replies
-
-tagged-short : (a b n : ℕ) → length (tagged (a ∷ b ∷ []) n) ≤ 24
-tagged-short a b n = simp length-append (omega (arith, spelled-few 20 n))
-
-pub text-short : (p : Printed) → length (textOf p) ≤ 24
-text-short printed.Bad = omega arith
-text-short (printed.Reply answer.Done) = omega arith
-text-short (printed.Reply (answer.Value v)) = tagged-short 111 107 v
-text-short (printed.Reply answer.Silent) = omega arith
-text-short (printed.Reply (answer.Declined w)) = tagged-short 110 111 (numberOf w)

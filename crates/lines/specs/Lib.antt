@@ -1,4 +1,3 @@
 pub mod Words
 pub mod Values
 pub mod Forms
-pub mod Texts

@@ -1,4 +1,4 @@
--- The words of lines and of replies, as bytes of ASCII.
+-- The words of lines, as bytes of ASCII.
 -- Assumes nothing.
 use mathlib.Core.List.{List, [], _∷_}
 use mathlib.Core.Bool.{Bool, true, false, _&&_}
@@ -39,22 +39,3 @@ issueWord = 105 ∷ 115 ∷ 115 ∷ 117 ∷ 101 ∷ []
 -- "send"
 abbrev pub sendWord : List ℕ
 sendWord = 115 ∷ 101 ∷ 110 ∷ 100 ∷ []
-
--- "ok"
-abbrev pub okText : List ℕ
-okText = 111 ∷ 107 ∷ []
-
--- "no"
-abbrev pub noText : List ℕ
-noText = 110 ∷ 111 ∷ []
-
--- "silent"
-abbrev pub silentText : List ℕ
-silentText = 115 ∷ 105 ∷ 108 ∷ 101 ∷ 110 ∷ 116 ∷ []
-
--- "bad"
-abbrev pub badText : List ℕ
-badText = 98 ∷ 97 ∷ 100 ∷ []
-
-abbrev pub newline : ℕ
-newline = 10

@@ -1,4 +1,3 @@
-// Lines of the script program: what a line asks for, and the text of a reply.
+// Lines of the script program: what a line asks for.
 pub mod forms;
-pub mod replies;
 mod values;

@@ -23,7 +23,7 @@ use storage::sizes::Place;
 // The lock and its estimate stand behind number 15.
 fn print_refusal(why: Refusal) {
     print::text(b"no");
-    print::next(lines::replies::number_of(why));
+    print::next(replies::number_of(why));
     if let Refusal::Locked(lock, estimate) = why {
         print::next(lock);
         print::next(estimate);

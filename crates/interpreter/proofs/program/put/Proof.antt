@@ -5,8 +5,8 @@ use mathlib.Core.List.{List}
 use Prim.Native.Nat.{ℕ, _+_, _-_}
 use lib.ListN.{length-take}
 use Rattle.octets.specs.Octets.{writeAt}
-use Rattle.lines.specs.Texts.{textOf}
-use Rattle.lines.proofs.Counts.{text-short}
+use Rattle.replies.specs.Texts.{textOf}
+use Rattle.replies.proofs.Lengths.{text-short}
 use Rattle.interpreter.proofs.Answers.{sub-none, first-written}
 use native.Mathlib.Omega.{arith}
 use borrow.Author.Needs.{needs}

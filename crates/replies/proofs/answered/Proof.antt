@@ -1,8 +1,8 @@
--- `replies::answered`, by the answer.
+-- `answered`, by the answer.
 -- Assumes nothing.
 use borrow.Author.Needs.{needs}
-use Rattle.lines.proofs.replies.answered.Statement.{statement}
-use Rattle.lines.proofs.replies.answered.Tie as tie
+use Rattle.replies.proofs.answered.Statement.{statement}
+use Rattle.replies.proofs.answered.Tie as tie
 
 enum-told : tie.Need-enum-told
 enum-told c = search needs

@@ -1,8 +1,8 @@
--- `replies::print`, by whether the line is bad.
+-- `print`, by whether the line is bad.
 -- Assumes nothing.
 use borrow.Author.Needs.{needs}
-use Rattle.lines.proofs.replies.print.Statement.{statement}
-use Rattle.lines.proofs.replies.print.Tie as tie
+use Rattle.replies.proofs.print.Statement.{statement}
+use Rattle.replies.proofs.print.Tie as tie
 
 enum-told : tie.Need-enum-told
 enum-told c = search needs

@@ -1,4 +1,4 @@
--- `replies::put_tagged`: three writes, each behind the one before.
+-- `put_tagged`: three writes, each behind the one before.
 -- Assumes nothing.
 use mathlib.Core.Path.{_≡_, ap, _∙_}
 use mathlib.Core.List.{[], _∷_}
@@ -9,8 +9,8 @@ use Rattle.text.specs.Text.{decimalOf}
 use Rattle.octets.proofs.Laws.{write-three}
 use native.Mathlib.Omega.{arith}
 use borrow.Author.Needs.{needs}
-use Rattle.lines.proofs.replies.put_tagged.Statement.{statement}
-use Rattle.lines.proofs.replies.put_tagged.Tie as tie
+use Rattle.replies.proofs.put_tagged.Statement.{statement}
+use Rattle.replies.proofs.put_tagged.Tie as tie
 
 put-requires : tie.Need-put-requires
 put-requires c κs = search needs

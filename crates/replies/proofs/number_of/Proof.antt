@@ -1,8 +1,8 @@
--- `replies::number_of`, refusal by refusal.
+-- `number_of`, refusal by refusal.
 -- Assumes nothing.
 use borrow.Author.Needs.{needs}
-use Rattle.lines.proofs.replies.number_of.Statement.{statement}
-use Rattle.lines.proofs.replies.number_of.Tie as tie
+use Rattle.replies.proofs.number_of.Statement.{statement}
+use Rattle.replies.proofs.number_of.Tie as tie
 
 enum-told : tie.Need-enum-told
 enum-told c = search needs

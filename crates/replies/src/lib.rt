@@ -1,4 +1,4 @@
-// The text of a reply.
+// The text of a reply of the script program.
 ghost use mathlib.Core.Path.{_≡_};
 ghost use Prim.Native.Nat.{_≤_};
 ghost use mathlib.Core.List.{[], _∷_, _++_};
@@ -6,7 +6,7 @@ ghost use lib.ListN.{length};
 ghost use Rattle.octets.specs.Octets.{writeAt};
 ghost use Rattle.cluster.specs.Replies.{numberOf, replyOf};
 ghost use Rattle.text.specs.Text.{decimalOf};
-ghost use Rattle.lines.specs.Texts.{replyText, textOf};
+ghost use Rattle.replies.specs.Texts.{replyText, textOf};
 use cluster::Answer;
 use cluster::Refusal;
 use text::number;

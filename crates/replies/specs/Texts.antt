@@ -5,9 +5,31 @@ use mathlib.Core.List.{List, [], _∷_, _++_}
 use Prim.Native.Nat.{ℕ}
 use Rattle.cluster.specs.Replies.{Reply, ok, no, silent, replyOf}
 use Rattle.text.specs.Text.{tab, decimalOf}
-use Rattle.lines.specs.declared.replies.Printed.{Printed}
-use Rattle.lines.specs.declared.replies.Printed.the-variants as printed
-use Rattle.lines.specs.Words.{okText, noText, silentText, badText, newline}
+use Rattle.replies.specs.declared.Printed.{Printed}
+use Rattle.replies.specs.declared.Printed.the-variants as printed
+
+-- ---- the words of replies, as bytes of ASCII
+
+-- "ok"
+abbrev pub okText : List ℕ
+okText = 111 ∷ 107 ∷ []
+
+-- "no"
+abbrev pub noText : List ℕ
+noText = 110 ∷ 111 ∷ []
+
+-- "silent"
+abbrev pub silentText : List ℕ
+silentText = 115 ∷ 105 ∷ 108 ∷ 101 ∷ 110 ∷ 116 ∷ []
+
+-- "bad"
+abbrev pub badText : List ℕ
+badText = 98 ∷ 97 ∷ 100 ∷ []
+
+abbrev pub newline : ℕ
+newline = 10
+
+-- ---- what is printed
 
 -- a word, a tab, a number and a newline
 abbrev pub tagged : List ℕ → ℕ → List ℕ

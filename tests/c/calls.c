@@ -73,6 +73,24 @@ static void clients(void)
     require(places_valid - before == COUNT * (MOST_DATA + 1), "a client's number does not matter");
 }
 
+/* A header of 0 is issue's to decline: a place that holds one is valid, and so is any other. */
+static void headers(void)
+{
+    static const uint64_t HEADERS[] = {0, 1, 9, 256, UINT32_MAX};
+    enum { COUNT = sizeof HEADERS / sizeof HEADERS[0] };
+    uint8_t place[PLACE];
+    uint64_t before = places_valid;
+    for (size_t i = 0; i < COUNT; i++) {
+        for (size_t data = 0; data <= MOST_DATA; data++) {
+            make_place(place, 258, data);
+            put_number(place + HEADER_AT, 4, HEADERS[i]);
+            seal(place, CHECKED);
+            compare_place("header", place, PLACE, 258);
+        }
+    }
+    require(places_valid - before == COUNT * (MOST_DATA + 1), "a stored header does not matter");
+}
+
 static void numbers_and_ids(void)
 {
     uint8_t place[PLACE];
@@ -309,6 +327,7 @@ int main(void)
     require(crc32_of(digits, sizeof digits) == 0xCBF43926, "the CRC-32 of 123456789 is CBF43926");
     valid_places();
     clients();
+    headers();
     numbers_and_ids();
     lengths();
     nothing();

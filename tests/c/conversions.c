@@ -197,6 +197,24 @@ static void records(void)
     }
 }
 
+/* Header 0 in one record of a log, and then in all: issue declines it, and what is stored stays. */
+static void headers(void)
+{
+    for (size_t n = 1; n <= FEW; n++) {
+        make_medium(FEW, FEW);
+        put_number(old_place(n) + OLD_HEADER_AT, 4, 0);
+        seal(old_place(n), OLD_CHECKED);
+        compare_medium("a header of 0", FEW);
+        read_back(FEW);
+    }
+    for (size_t n = 1; n <= FEW; n++) {
+        put_number(old_place(n) + OLD_HEADER_AT, 4, 0);
+        seal(old_place(n), OLD_CHECKED);
+    }
+    compare_medium("headers of 0", FEW);
+    read_back(FEW);
+}
+
 /* A byte gets another value, under the old check and then under one that fits. */
 static void damage(size_t places, size_t at, unsigned change)
 {
@@ -360,6 +378,7 @@ void conversions(void)
     by_hand();
     all_marks();
     records();
+    headers();
     damaged();
     all_slots();
     lengths();

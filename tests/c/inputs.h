@@ -7,8 +7,8 @@
 
 /* Bytes: of a slot and both, of a place and an old one, of what a check stands behind, and of the data at most. */
 enum { SLOT = 32, SLOTS = 64, SLOT_CHECKED = 28 };
-enum { PLACE = 72, CHECKED = 68, LENGTH_AT = 32, DATA_AT = 36, MOST_DATA = 28 };
-enum { OLD_PLACE = 64, OLD_CHECKED = 60, OLD_LENGTH_AT = 28, OLD_DATA_AT = 32 };
+enum { PLACE = 72, CHECKED = 68, HEADER_AT = 28, LENGTH_AT = 32, DATA_AT = 36, MOST_DATA = 28 };
+enum { OLD_PLACE = 64, OLD_CHECKED = 60, OLD_HEADER_AT = 24, OLD_LENGTH_AT = 28, OLD_DATA_AT = 32 };
 
 extern uint64_t differences, failed_conditions;
 

@@ -1,11 +1,11 @@
 -- Number 28 (document 02, No. 8) as laws about a whole call. An issue that passes the refusals before 28 is declined by it exactly if its header is 0
--- (`zero-exactly`). "New requests with header 0 are no longer taken": one that is given an ID has another (`taken`). No other call is ever declined by it
+-- (`zero-exactly`); these are 1, 2, 3, 5, 10, 11 and 12, and 13, 14, 23 and 15 stand behind it (`just-after-12`). "New requests with header 0 are no longer taken": one that is given an ID has another (`taken`). No other call is ever declined by it
 -- (`only-issue`). The statements come first, then their proofs.
 -- Assumes nothing.
 use mathlib.Core.Path.{_≡_, refl}
 use mathlib.Core.Bool.{true, false}
 use mathlib.Core.Logic.{_↔_}
-use mathlib.Core.List.{List, []}
+use mathlib.Core.List.{List, [], _∷_, map}
 use Prim.Native.Nat.{ℕ, _≤_}
 use native.Mathlib.Omega.{arith}
 use borrow.Author.Tests.{eqb-true, eqb-false, eq-eqb}
@@ -20,13 +20,10 @@ use Rattle.cluster.specs.Replies.{ok, no}
 use Rattle.cluster.specs.Refusals.{Input, row, headerZero, rowsOf, pass, firstOf}
 use Rattle.cluster.specs.Step.{effect, step}
 use Rattle.cluster.proofs.Rows.{passed}
-use Rattle.cluster.proofs.Numbers.{mentions, until, beyond, other-number, given-exactly, ok-passes}
+use Rattle.cluster.proofs.Numbers.{making, mentions, until, beyond, other-number, given-exactly, ok-passes}
 use Rattle.cluster.proofs.Declines.{effect-never-no}
 
 -- ---- the statements
-
-abbrev making : Call → List ℕ → List ℕ → List ℕ → Stamp → Files → Input
-making c content locks given stamp files = record { call = c; content = content; locks = locks; given = given; stamp = stamp; files = files }
 
 abbrev pub ZeroExactly : Type 0
 ZeroExactly =
@@ -34,6 +31,13 @@ ZeroExactly =
     → let p = making (call.Issue s q) content locks given stamp files in
     firstOf (until 28 (rowsOf h x p)) ≡ pass
     → (step h x p .reply ≡ no 28 []) ↔ (q .header ≡ 0)
+
+-- "just after 12": the numbers before it and behind it in an issue's list
+abbrev pub JustAfter12 : Type 0
+JustAfter12 =
+    (h : Shape) (x : State) (s : ℕ) (q : Request) (content locks given : List ℕ) (stamp : Stamp) (files : Files)
+    → let ws = rowsOf h x (making (call.Issue s q) content locks given stamp files) in
+    (map (λ w. w .number) (until 28 ws) ≡ 1 ∷ 2 ∷ 3 ∷ 5 ∷ 10 ∷ 11 ∷ 12 ∷ []) × (map (λ w. w .number) (beyond 28 ws) ≡ 13 ∷ 14 ∷ 23 ∷ 15 ∷ [])
 
 abbrev pub Taken : Type 0
 Taken =
@@ -69,8 +73,12 @@ module _ (h : Shape) (x : State) (s : ℕ) (q : Request) (content locks given : 
 
 pub zero-exactly : ZeroExactly
 zero-exactly h x s q content locks given stamp files k =
-    let row = by-28 h x s q content locks given stamp files [] in
-    (λ r. eqb-true (q .header) 0 (row .0 r .1), λ z. row .1 (k, eq-eqb (q .header) 0 z, refl))
+    let given-28 = by-28 h x s q content locks given stamp files [] in
+    (λ r. eqb-true (q .header) 0 (given-28 .0 r .1), λ z. given-28 .1 (k, eq-eqb (q .header) 0 z, refl))
+
+pub just-after-12 : JustAfter12
+unfolding until beyond
+just-after-12 h x s q content locks given stamp files = (refl, refl)
 
 pub taken : Taken
 unfolding step
@@ -89,8 +97,8 @@ by-issue : (h : Shape) (x : State) (content locks given : List ℕ) (stamp : Sta
     → ZeroIssue c × (values ≡ [])
 unfolding mentions
 by-issue h x content locks given stamp files values (call.Issue s q) r =
-    let row = by-28 h x s q content locks given stamp files values .0 r in
-    (record { server = s; request = q; issues = refl; zero = eqb-true (q .header) 0 (row .1) }, row .2)
+    let held = by-28 h x s q content locks given stamp files values .0 r in
+    (record { server = s; request = q; issues = refl; zero = eqb-true (q .header) 0 (held .1) }, held .2)
 by-issue h x content locks given stamp files values (call.Take s f) r = absurd (unmentioned h x _ values refl r)
 by-issue h x content locks given stamp files values (call.Prepare s i f) r = absurd (unmentioned h x _ values refl r)
 by-issue h x content locks given stamp files values (call.Copy s a b f) r = absurd (unmentioned h x _ values refl r)

@@ -17,7 +17,6 @@ use Rattle.segment.specs.declared.header.Stamp.{Stamp}
 use Rattle.segment.specs.Pair.{Files}
 use Rattle.cluster.specs.declared.Shape.{Shape}
 use Rattle.cluster.specs.declared.Request.{Request}
-use Rattle.cluster.specs.declared.Call.{Call}
 use Rattle.cluster.specs.declared.Call.the-variants as call
 use Rattle.cluster.specs.declared.Server.{Server}
 use Rattle.cluster.specs.State.{State, serverAt, markAt, holds, tableAt}
@@ -25,15 +24,12 @@ use Rattle.cluster.specs.Replies.{no}
 use Rattle.cluster.specs.Refusals.{Input, row, unacknowledged, nothingToSend, rowsOf, pass, firstOf}
 use Rattle.cluster.specs.Step.{effect, step}
 use Rattle.cluster.proofs.Rows.{passed}
-use Rattle.cluster.proofs.Numbers.{mentions, until, beyond, given-exactly}
+use Rattle.cluster.proofs.Numbers.{making, mentions, until, beyond, given-exactly}
 use Rattle.cluster.proofs.Declines.{effect-never-no}
 use Rattle.cluster.proofs.Locked.{aware}
 use Rattle.cluster.proofs.Window.{within, is-within}
 
 -- ---- the statements
-
-abbrev making : Call → List ℕ → List ℕ → List ℕ → Stamp → Files → Input
-making c content locks given stamp files = record { call = c; content = content; locks = locks; given = given; stamp = stamp; files = files }
 
 abbrev pub ManyExactly : Type 0
 ManyExactly =

@@ -9,12 +9,19 @@ use Prim.Native.Nat.{ℕ}
 use native.Mathlib.Omega.{arith}
 use lib.Dec.{eqb}
 use borrow.Author.Tests.{eq-eqb}
+use Rattle.segment.specs.declared.header.Stamp.{Stamp}
+use Rattle.segment.specs.Pair.{Files}
+use Rattle.cluster.specs.declared.Call.{Call}
 use Rattle.cluster.specs.State.{State}
 use Rattle.cluster.specs.Replies.{ok, no}
-use Rattle.cluster.specs.Refusals.{Row, Verdict, pass, declined, firstOf, andThen}
+use Rattle.cluster.specs.Refusals.{Input, Row, Verdict, pass, declined, firstOf, andThen}
 use Rattle.cluster.specs.Effects.{Result}
 use Rattle.cluster.specs.Step.{unless, rest}
 use Rattle.cluster.proofs.Rows.{firstOf-append}
+
+-- a call with its arguments, for laws about one kind of call
+abbrev pub making : Call → List ℕ → List ℕ → List ℕ → Stamp → Files → Input
+making c content locks given stamp files = record { call = c; content = content; locks = locks; given = given; stamp = stamp; files = files }
 
 -- a row has this number
 unfoldable pub mentions : ℕ → List Row → Bool

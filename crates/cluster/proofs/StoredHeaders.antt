@@ -1,39 +1,40 @@
--- STORED RECORDS WITH ANY HEADER. Document 02, No. 8: "Stored ones stay readable, are copied in recovery and exported." Two lots of media that are the
--- same but for the headers of stored records (and so the checks over them) decline the same calls by the same numbers, whichever call it is:
--- `header-blind`. Nor does it matter to a send what the server holds, but only of which IDs (`held-blind`). So a call that would go on with a record of
--- another header goes on with one of header 0; what it then does with the bytes is its effect, which takes them as they are.
--- The statements come first, then their proofs.
+-- Document 02, No. 8: "Stored ones stay readable, are copied in recovery and exported." Two states that differ only in headers of stored records (and so in
+-- the checks over them) and in what servers hold decline the same calls by the same numbers, whichever call it is: `header-blind`. So a call that would go on
+-- with a record of another header goes on with one of header 0; what it then does with it is said of any bytes (AsStored.antt). Such states there are: a place
+-- of any medium can be written with another header (`reheads`). The statements come first, then their proofs.
 -- Assumes nothing.
-use mathlib.Core.Path.{_≡_, refl, sym, ap, _∙_}
-use mathlib.Core.Bool.{Bool, true, false, _&&_, cond}
+use mathlib.Core.Path.{_≡_, refl, sym, ap, ap₂, _∙_}
+use mathlib.Core.Bool.{Bool, true, false, not, _&&_, cond}
 use mathlib.Core.Logic.{_⊎_, inl, inr}
 use mathlib.Core.List.{List, [], _∷_}
 use Prim.Native.Nat.{ℕ, zero, suc, _+_, _*_, _^_, _≤_, _<_}
 use native.Mathlib.Omega.{arith}
+use native.Mathlib.Decide.{ℕ-discrete}
 use lib.ListN.{length, take, drop, length-take, drop-of-length-le}
 use lib.Dec.{eqb}
 use Rattle.base.proofs.Tests.{both, lt-or-le}
-use Rattle.octets.specs.Octets.{Bytes}
-use Rattle.fate.specs.declared.Fate.{Fate}
+use Rattle.base.proofs.Same.{all-same}
+use Rattle.octets.specs.Octets.{Bytes, writeAt}
 use Rattle.storage.specs.declared.place.Fields.{Fields}
 use Rattle.storage.specs.declared.slot.Current.{Current}
 use Rattle.storage.specs.declared.slot.Current.the-variants.{First, Second, Neither}
 use Rattle.storage.specs.Layout.{numberIn, formed}
-use Rattle.storage.specs.Sizes.{placeLayout, dataLimit, placeSize, mediumSize, placeOffset}
-use Rattle.storage.specs.Places.{recordBytes, sizeAs, sizeOf, fieldsIn, validPlace, Fitting}
-use Rattle.storage.specs.Slots.{slotOf, currentOf, heldOf, storedSlot}
-use Rattle.storage.specs.Slots as slots
+use Rattle.storage.specs.Sizes.{placeLayout, dataLimit, slotSize, placeSize, mediumSize, placeOffset}
+use Rattle.storage.specs.Places.{placeNumbers, recordBytes, sizeAs, sizeOf, fieldsIn, validPlace, Fitting}
+use Rattle.storage.specs.Slots.{slotOf, firstOf as firstSlot, secondOf as secondSlot, currentOf, heldOf, storedSlot}
 use Rattle.storage.specs.Log.{placeAt, placesFrom, run, runBy, logOf, markOf}
 use Rattle.storage.specs.Operations.{mediumAt}
+use Rattle.storage.proofs.Layouts.{record-length}
 use Rattle.storage.proofs.Records.{read-back}
+use Rattle.storage.proofs.Blocks as blocks
 use Rattle.segment.specs.Records.{recordSize}
 use Rattle.segment.specs.Pair.{Files, recordsSize}
 use Rattle.cluster.specs.declared.Shape.{Shape}
 use Rattle.cluster.specs.declared.Server.{Server}
 use Rattle.cluster.specs.declared.Call.{Call}
 use Rattle.cluster.specs.declared.Call.the-variants as call
-use Rattle.cluster.specs.State.{State}
-use Rattle.cluster.specs.Refusals.{Input, noSlot, promiseAbove, promiseDiffers, markDiffers, otherSizes, sendRows, checksOf, listOf, rowsOf, firstOf}
+use Rattle.cluster.specs.State.{State, serverAt}
+use Rattle.cluster.specs.Refusals.{Input, entriesFit, serverFits, markAbove, noSlot, promiseAbove, promiseDiffers, markDiffers, otherSizes, undecided, voteMark, tooFewClean, checksOf, listOf, rowsOf, firstOf}
 
 -- ---- the statements
 
@@ -53,27 +54,18 @@ pub record Reheaded (a b : List ℕ) : Type 0 where
   pub one : a ≡ recordBytes fields content
   pub other : b ≡ recordBytes (withHeader fields header) content
 
-abbrev pub SamePlace : List ℕ → List ℕ → Type 0
-SamePlace a b = (a ≡ b) ⊎ Reheaded a b
+abbrev pub AlikePlace : List ℕ → List ℕ → Type 0
+AlikePlace a b = (a ≡ b) ⊎ Reheaded a b
 
 -- of N places: the same slots, and in each place the same bytes or another header
-pub record SameMedium (N : ℕ) (a b : List ℕ) : Type 0 where
-  pub first : slots.firstOf a ≡ slots.firstOf b
-  pub second : slots.secondOf a ≡ slots.secondOf b
-  pub places : (n : ℕ) → 1 ≤ n → n ≤ N → SamePlace (placeAt n a) (placeAt n b)
+pub record AlikeMedium (N : ℕ) (a b : List ℕ) : Type 0 where
+  pub first : firstSlot a ≡ firstSlot b
+  pub second : secondSlot a ≡ secondSlot b
+  pub places : (n : ℕ) → 1 ≤ n → n ≤ N → AlikePlace (placeAt n a) (placeAt n b)
 
-pub record SameMedia (N : ℕ) (a b : List ℕ) : Type 0 where
-  pub size : length a ≡ length b
-  pub each : (i : ℕ) → SameMedium N (mediumAt N i a) (mediumAt N i b)
-
-abbrev pub HeaderBlind : Type 0
-HeaderBlind =
-    (h : Shape) (x : State) (media : List ℕ) (p : Input)
-    → SameMedia (h .places) (x .media) media
-    → firstOf (rowsOf h x p) ≡ firstOf (rowsOf h (record { records = x .records; media = media; tables = x .tables }) p)
-
-abbrev pub withHeld : Server → List ℕ → Server
-withHeld v bs =
+-- a server's record without the bytes that it holds: of which IDs these are is said by the starting and the issued mark
+abbrev pub withoutHeld : Server → Server
+withoutHeld v =
     record {
       phase = v .phase;
       session = v .session;
@@ -85,11 +77,26 @@ withHeld v bs =
       start = v .start;
       issued = v .issued;
       acked = v .acked;
-      held = bs;
+      held = [];
     }
 
-abbrev pub HeldBlind : Type 0
-HeldBlind = (h : Shape) (v : Server) (held : List ℕ) (i : ℕ) (f : Fate) (given : List ℕ) → sendRows h v i f given ≡ sendRows h (withHeld v held) i f given
+pub record Alike (N : ℕ) (x y : State) : Type 0 where
+  pub register : x .records .register ≡ y .records .register
+  pub servers : (s : ℕ) → withoutHeld (serverAt (x .records) s) ≡ withoutHeld (serverAt (y .records) s)
+  pub size : length (x .media) ≡ length (y .media)
+  pub media : (i : ℕ) → AlikeMedium N (mediumAt N i (x .media)) (mediumAt N i (y .media))
+  pub tables : x .tables ≡ y .tables
+
+abbrev pub HeaderBlind : Type 0
+HeaderBlind = (h : Shape) (x y : State) (p : Input) → Alike (h .places) x y → firstOf (rowsOf h x p) ≡ firstOf (rowsOf h y p)
+
+abbrev pub Reheads : Type 0
+Reheads =
+    (N n : ℕ) (m : List ℕ) (f : Fields) (d : List ℕ) (k : ℕ)
+    → length m ≡ mediumSize N → 1 ≤ n → n ≤ N
+    → Fitting f → k < 2 ^ 32 → length d ≤ dataLimit → Bytes d
+    → placeAt n m ≡ recordBytes f d
+    → AlikeMedium N m (writeAt (placeOffset n) (recordBytes (withHeader f k) d) m)
 
 -- ---- a place
 
@@ -133,39 +140,39 @@ one-more true p q ps qs e = ap suc e
 one-more false p q ps qs e = refl
 
 -- above its last place a medium has nothing
-beyond : (N i n : ℕ) (media : List ℕ) → N < n → placeAt n (mediumAt N i media) ≡ []
+above-last : (N i n : ℕ) (media : List ℕ) → N < n → placeAt n (mediumAt N i media) ≡ []
 unfolding placeAt
-beyond N i n media l =
+above-last N i n media l =
     let m = mediumAt N i media in
     let short : length m ≤ placeOffset n = omega (arith, l, length-take (mediumSize N) (drop (i * mediumSize N) media)) in
     ap (take placeSize) (drop-of-length-le m short)
 
--- medium i of the two lots
-module _ (N i : ℕ) (one other : List ℕ) (S : SameMedium N (mediumAt N i one) (mediumAt N i other)) where
+-- medium i of the two
+module _ (N i : ℕ) (one other : List ℕ) (S : AlikeMedium N (mediumAt N i one) (mediumAt N i other)) where
   abbrev a : List ℕ
   a = mediumAt N i one
 
   abbrev b : List ℕ
   b = mediumAt N i other
 
-  place-same : (n : ℕ) → 1 ≤ n → SamePlace (placeAt n a) (placeAt n b)
-  place-same n l = go (lt-or-le N n)
+  place-alike : (n : ℕ) → 1 ≤ n → AlikePlace (placeAt n a) (placeAt n b)
+  place-alike n l = go (lt-or-le N n)
     where
-      go : (N < n) ⊎ (n ≤ N) → SamePlace (placeAt n a) (placeAt n b)
-      go (inl m) = inl (beyond N i n one m ∙ sym (beyond N i n other m))
+      go : (N < n) ⊎ (n ≤ N) → AlikePlace (placeAt n a) (placeAt n b)
+      go (inl m) = inl (above-last N i n one m ∙ sym (above-last N i n other m))
       go (inr m) = S .places n l m
 
   valid-same : (n : ℕ) → 1 ≤ n → validPlace n (placeAt n a) ≡ validPlace n (placeAt n b)
-  valid-same n l = go (place-same n l)
+  valid-same n l = go (place-alike n l)
     where
-      go : SamePlace (placeAt n a) (placeAt n b) → validPlace n (placeAt n a) ≡ validPlace n (placeAt n b)
+      go : AlikePlace (placeAt n a) (placeAt n b) → validPlace n (placeAt n a) ≡ validPlace n (placeAt n b)
       go (inl e) = ap (validPlace n) e
       go (inr r) = reheaded-valid _ _ r n
 
   size-same : (n : ℕ) → 1 ≤ n → sizeOf (placeAt n a) ≡ sizeOf (placeAt n b)
-  size-same n l = go (place-same n l)
+  size-same n l = go (place-alike n l)
     where
-      go : SamePlace (placeAt n a) (placeAt n b) → sizeOf (placeAt n a) ≡ sizeOf (placeAt n b)
+      go : AlikePlace (placeAt n a) (placeAt n b) → sizeOf (placeAt n a) ≡ sizeOf (placeAt n b)
       go (inl e) = ap sizeOf e
       go (inr r) = reheaded-size _ _ r
 
@@ -223,35 +230,136 @@ module _ (N i : ℕ) (one other : List ℕ) (S : SameMedium N (mediumAt N i one)
   unfolding otherSizes
   other-sizes k files = rw (records-same k 1 (omega arith), count-same k 1)
 
+-- ---- a server
+
+-- what the rows look at of a server's record, all but what it holds
+pub record Fields-same (v w : Server) : Type 0 where
+  pub phase : v .phase ≡ w .phase
+  pub session : v .session ≡ w .session
+  pub generation : v .generation ≡ w .generation
+  pub known : v .known ≡ w .known
+  pub dropped : v .dropped ≡ w .dropped
+  pub marks : v .marks ≡ w .marks
+  pub start : v .start ≡ w .start
+  pub issued : v .issued ≡ w .issued
+  pub acked : v .acked ≡ w .acked
+
+fields-same : (v w : Server) → withoutHeld v ≡ withoutHeld w → Fields-same v w
+fields-same v w e =
+    record {
+      phase = ap (λ (u : Server). u .phase) e;
+      session = ap (λ (u : Server). u .session) e;
+      generation = ap (λ (u : Server). u .generation) e;
+      known = ap (λ (u : Server). u .known) e;
+      dropped = ap (λ (u : Server). u .dropped) e;
+      marks = ap (λ (u : Server). u .marks) e;
+      start = ap (λ (u : Server). u .start) e;
+      issued = ap (λ (u : Server). u .issued) e;
+      acked = ap (λ (u : Server). u .acked) e;
+    }
+
 -- ---- a call
 
-module _ (h : Shape) (x : State) (media : List ℕ) (p : Input) (S : SameMedia (h .places) (x .media) media) where
-  abbrev y : State
-  y = record { records = x .records; media = media; tables = x .tables }
+module _ (h : Shape) (x y : State) (p : Input) (S : Alike (h .places) x y) where
+  above-same : markAbove h (x .records) ≡ markAbove h (y .records)
+  unfolding markAbove serverFits
+  above-same =
+      ap₂ (λ (a b : Bool). not (a && b)) (ap (λ g. entriesFit h (g .entries)) (S .register))
+      (all-same 4 (λ s. serverFits h (serverAt (x .records) s)) (λ s. serverFits h (serverAt (y .records) s)) (λ s l. ap (serverFits h) (S .servers s)))
 
-  abbrev Alike : Call → Type 0
-  Alike c = listOf (checksOf h x p c) ≡ listOf (checksOf h y p c)
+  abbrev SameRows : Call → Type 0
+  SameRows c = listOf (checksOf h x p c) ≡ listOf (checksOf h y p c)
 
-  rows-same : (c : Call) → Alike c
-  rows-same (call.Take s f) = rw (S .size)
-  rows-same (call.Prepare s i f) = let m = S .each i in rw (S .size, no-slot _ _ _ _ m, promise-above _ _ _ _ m _)
+  server : (s : ℕ) → Fields-same (serverAt (x .records) s) (serverAt (y .records) s)
+  server s = fields-same _ _ (S .servers s)
+
+  -- the vote is over the flags and the recorded marks
+  abbrev r : ℕ
+  r = h .replicas
+
+  undecided-same : (s : ℕ) → undecided r (serverAt (x .records) s) ≡ undecided r (serverAt (y .records) s)
+  undecided-same s = ap (undecided r) (S .servers s)
+
+  vote-same : (s : ℕ) → voteMark r (serverAt (x .records) s) ≡ voteMark r (serverAt (y .records) s)
+  vote-same s = ap (voteMark r) (S .servers s)
+
+  clean-same : (s : ℕ)
+      → tooFewClean r (serverAt (x .records) s) (voteMark r (serverAt (x .records) s)) ≡ tooFewClean r (serverAt (y .records) s) (voteMark r (serverAt (y .records) s))
+  clean-same s = ap (λ (u : Server). tooFewClean r u (voteMark r u)) (S .servers s)
+
+  rows-same : (c : Call) → SameRows c
+  rows-same (call.Take s f) = let v = server s in rw (S .size, S .tables, above-same, v .phase, S .register)
+  rows-same (call.Prepare s i f) =
+      let v = server s in
+      let m = S .media i in
+      rw (S .size, S .tables, above-same, v .phase, v .session, no-slot _ _ _ _ m, promise-above _ _ _ _ m _)
   rows-same (call.Copy s a b f) =
-      let m = S .each a in
-      let n = S .each b in
-      rw (S .size, no-slot _ _ _ _ m, promise-differs _ _ _ _ m _, mark-differs _ _ _ _ m _, no-slot _ _ _ _ n, promise-differs _ _ _ _ n _, mark-differs _ _ _ _ n _)
-  rows-same (call.Trim s i f) = let m = S .each i in rw (S .size, no-slot _ _ _ _ m, promise-differs _ _ _ _ m _, mark-differs _ _ _ _ m _)
-  rows-same (call.Open s f) = rw (S .size)
-  rows-same (call.Issue s q) = rw (S .size)
-  rows-same (call.Send s i f) = let m = S .each i in rw (S .size, no-slot _ _ _ _ m, promise-differs _ _ _ _ m _, mark-differs _ _ _ _ m _)
-  rows-same (call.Note s i f) = let m = S .each i in rw (S .size, no-slot _ _ _ _ m, promise-differs _ _ _ _ m _, mark-differs _ _ _ _ m _)
-  rows-same (call.Read s i n f) = let m = S .each i in rw (S .size, no-slot _ _ _ _ m, promise-differs _ _ _ _ m _, mark-differs _ _ _ _ m _)
+      let v = server s in
+      let m = S .media a in
+      let n = S .media b in
+      rw (S .size, S .tables, above-same, v .phase, v .known, v .dropped, v .marks, v .session)
+      (rw (no-slot _ _ _ _ m, promise-differs _ _ _ _ m _, mark-differs _ _ _ _ m _, no-slot _ _ _ _ n, promise-differs _ _ _ _ n _, mark-differs _ _ _ _ n _))
+  rows-same (call.Trim s i f) =
+      let v = server s in
+      let m = S .media i in
+      rw (S .size, S .tables, above-same, v .phase, undecided-same s, vote-same s, v .known, v .dropped, v .marks, v .session)
+      (rw (no-slot _ _ _ _ m, promise-differs _ _ _ _ m _, mark-differs _ _ _ _ m _))
+  rows-same (call.Open s f) =
+      let v = server s in rw (S .size, S .tables, above-same, v .phase, undecided-same s, clean-same s, v .session, S .register)
+  rows-same (call.Issue s q) = let v = server s in rw (S .size, S .tables, above-same, v .phase, v .generation, v .acked, v .issued, v .start)
+  rows-same (call.Send s i f) =
+      let v = server s in
+      let m = S .media i in
+      rw (S .size, S .tables, above-same, v .phase, v .known, v .dropped, v .marks, v .start, v .issued, v .session)
+      (rw (no-slot _ _ _ _ m, promise-differs _ _ _ _ m _, mark-differs _ _ _ _ m _))
+  rows-same (call.Note s i f) =
+      let v = server s in
+      let m = S .media i in
+      rw (S .size, S .tables, above-same, v .phase, v .known, v .dropped, v .marks, v .session)
+      (rw (no-slot _ _ _ _ m, promise-differs _ _ _ _ m _, mark-differs _ _ _ _ m _))
+  rows-same (call.Read s i n f) =
+      let v = server s in
+      let m = S .media i in
+      rw (S .size, S .tables, above-same, v .phase, v .known, v .dropped, v .marks, v .acked, v .session)
+      (rw (no-slot _ _ _ _ m, promise-differs _ _ _ _ m _, mark-differs _ _ _ _ m _))
   rows-same (call.Export s i f) =
-      let m = S .each i in rw (S .size, no-slot _ _ _ _ m, promise-differs _ _ _ _ m _, mark-differs _ _ _ _ m _, other-sizes _ _ _ _ m _ _)
-  rows-same (call.Stop s) = rw (S .size)
-  rows-same call.Reassign = rw (S .size)
+      let v = server s in
+      let m = S .media i in
+      rw (S .size, S .tables, above-same, v .phase, v .known, v .dropped, v .marks, v .acked, v .session)
+      (rw (no-slot _ _ _ _ m, promise-differs _ _ _ _ m _, mark-differs _ _ _ _ m _, other-sizes _ _ _ _ m _ _))
+  rows-same (call.Stop s) = rw (S .size, S .tables, above-same)
+  rows-same call.Reassign = rw (S .size, S .tables, above-same, S .register)
 
 pub header-blind : HeaderBlind
-header-blind h x media p S = ap firstOf (rows-same h x media p S (p .call))
+header-blind h x y p S = ap firstOf (rows-same h x y p S (p .call))
 
-pub held-blind : HeldBlind
-held-blind h v held i f given = refl
+-- ---- a place that gets another header
+
+pub reheads : Reheads
+unfolding recordBytes
+reheads N n m f d k size lo hi w fits short bytes here =
+    let g = withHeader f k in
+    let new = recordBytes g d in
+    let full : length new ≡ placeSize = record-length placeLayout (placeNumbers g (length d)) d refl short in
+    record {
+      first = sym (blocks.slots-kept N m new size n 0 slotSize lo hi (omega arith));
+      second = sym (blocks.slots-kept N m new size n slotSize slotSize lo hi (omega arith));
+      places = λ j l u. at j l u (ℕ-discrete j n) full;
+    }
+  where
+    at : (j : ℕ) → 1 ≤ j → j ≤ N → Dec (j ≡ n) → length (recordBytes (withHeader f k) d) ≡ placeSize
+        → AlikePlace (placeAt j m) (placeAt j (writeAt (placeOffset n) (recordBytes (withHeader f k) d) m))
+    at j l u (yes e) full =
+        inr
+        (record {
+          fields = f;
+          content = d;
+          header = k;
+          fitting = w;
+          fits = fits;
+          short = short;
+          bytes = bytes;
+          one = ap (λ (i : ℕ). placeAt i m) e ∙ here;
+          other = ap (λ (i : ℕ). placeAt i (writeAt (placeOffset n) (recordBytes (withHeader f k) d) m)) e ∙ blocks.place-same N m _ size n lo hi full;
+        })
+    at j l u (no ne) full = inl (sym (blocks.place-other N m _ size j n l lo hi full ne))

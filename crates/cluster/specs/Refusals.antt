@@ -180,8 +180,8 @@ clientAhead v q = ltb (v .acked) (q .mark)
 -- 12, document 01: "Data exceed 28 bytes, or locks exceed 4", is limits specs/Limits.antt `tooMuch`, under a pair; the client's pair is handed over below, in
 -- issue's line of `checksOf`
 
--- 28, document 02, No. 8: "Number 28 is given by issue, just after 12, when the header is 0." Of a gate's request too. "Stored ones stay readable, are copied
--- in recovery and exported": no other condition looks at a header.
+-- 28, document 02, No. 8: "Number 28 is given by issue, just after 12, when the header is 0." A gate's request is judged alike. "Stored ones stay readable, are
+-- copied in recovery and exported": no other condition looks at a header (proofs/StoredHeaders).
 abbrev pub headerZero : Request → Bool
 headerZero q = eqb (q .header) 0
 

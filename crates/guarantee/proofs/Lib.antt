@@ -30,7 +30,6 @@
 -- three lists out.
 -- Assumes nothing.
 pub mod Ties
-pub mod Blocks
 pub mod Sessions
 pub mod Frames
 pub mod Passing

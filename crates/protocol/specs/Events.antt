@@ -19,8 +19,9 @@
 -- not done. Marks are the stored ones; refusal 20 sees to it that they are the recorded ones too.
 --
 -- A guard (Can-..) is what the named refusal leaves when it is not met. The guards ask only what the guarantee rests on, so that more is allowed
--- than the calls do. Left out: that marks are within N (2, 14); that a dropped member is not used again (7); a request's generation, size
--- and acknowledged client mark (10, 11, 12); how many records are in flight (13), and which records the server still holds (16).
+-- than the calls do. Left out: that marks are within N (2, 14); that a dropped member is not used again (7); a request's generation,
+-- acknowledged client mark, size and header (10, 11, 12, 28); how many records are in flight (13), and which records the server still holds (16); the
+-- interval (23).
 --
 -- Document 02, No. 5: "A server stopped with records in flight is one more case that the recovery guarantee has to cover, whichever of the eight reached
 -- whom." No event knows of eight. append is of any ID of the session that follows the replica's log, for any member at any time, and stop may come after

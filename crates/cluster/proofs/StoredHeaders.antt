@@ -15,6 +15,7 @@ use lib.Dec.{eqb}
 use Rattle.base.proofs.Tests.{both, lt-or-le}
 use Rattle.base.proofs.Same.{all-same}
 use Rattle.octets.specs.Octets.{Bytes, writeAt}
+use Rattle.fate.specs.declared.Fate.{Fate}
 use Rattle.storage.specs.declared.place.Fields.{Fields}
 use Rattle.storage.specs.declared.slot.Current.{Current}
 use Rattle.storage.specs.declared.slot.Current.the-variants.{First, Second, Neither}
@@ -34,7 +35,7 @@ use Rattle.cluster.specs.declared.Server.{Server}
 use Rattle.cluster.specs.declared.Call.{Call}
 use Rattle.cluster.specs.declared.Call.the-variants as call
 use Rattle.cluster.specs.State.{State, serverAt}
-use Rattle.cluster.specs.Refusals.{Input, entriesFit, serverFits, markAbove, noSlot, promiseAbove, promiseDiffers, markDiffers, otherSizes, undecided, voteMark, tooFewClean, checksOf, listOf, rowsOf, firstOf}
+use Rattle.cluster.specs.Refusals.{Input, entriesFit, serverFits, markAbove, noSlot, promiseAbove, promiseDiffers, markDiffers, otherSizes, undecided, voteMark, tooFewClean, refusesAt, exportedPlaces, receivedAt, checksOf, listOf, rowsOf, firstOf}
 
 -- ---- the statements
 
@@ -80,7 +81,8 @@ withoutHeld v =
       held = [];
     }
 
-pub record Alike (N : ℕ) (x y : State) : Type 0 where
+-- the same but for headers of stored records, and for what servers hold, which may be any bytes
+pub record AlikeState (N : ℕ) (x y : State) : Type 0 where
   pub register : x .records .register ≡ y .records .register
   pub servers : (s : ℕ) → withoutHeld (serverAt (x .records) s) ≡ withoutHeld (serverAt (y .records) s)
   pub size : length (x .media) ≡ length (y .media)
@@ -88,7 +90,7 @@ pub record Alike (N : ℕ) (x y : State) : Type 0 where
   pub tables : x .tables ≡ y .tables
 
 abbrev pub HeaderBlind : Type 0
-HeaderBlind = (h : Shape) (x y : State) (p : Input) → Alike (h .places) x y → firstOf (rowsOf h x p) ≡ firstOf (rowsOf h y p)
+HeaderBlind = (h : Shape) (x y : State) (p : Input) → AlikeState (h .places) x y → firstOf (rowsOf h x p) ≡ firstOf (rowsOf h y p)
 
 abbrev pub Reheads : Type 0
 Reheads =
@@ -149,91 +151,91 @@ above-last N i n media l =
 
 -- medium i of the two
 module _ (N i : ℕ) (one other : List ℕ) (S : AlikeMedium N (mediumAt N i one) (mediumAt N i other)) where
-  abbrev a : List ℕ
-  a = mediumAt N i one
+  abbrev here : List ℕ
+  here = mediumAt N i one
 
-  abbrev b : List ℕ
-  b = mediumAt N i other
+  abbrev there : List ℕ
+  there = mediumAt N i other
 
-  place-alike : (n : ℕ) → 1 ≤ n → AlikePlace (placeAt n a) (placeAt n b)
+  place-alike : (n : ℕ) → 1 ≤ n → AlikePlace (placeAt n here) (placeAt n there)
   place-alike n l = go (lt-or-le N n)
     where
-      go : (N < n) ⊎ (n ≤ N) → AlikePlace (placeAt n a) (placeAt n b)
+      go : (N < n) ⊎ (n ≤ N) → AlikePlace (placeAt n here) (placeAt n there)
       go (inl m) = inl (above-last N i n one m ∙ sym (above-last N i n other m))
       go (inr m) = S .places n l m
 
-  valid-same : (n : ℕ) → 1 ≤ n → validPlace n (placeAt n a) ≡ validPlace n (placeAt n b)
+  valid-same : (n : ℕ) → 1 ≤ n → validPlace n (placeAt n here) ≡ validPlace n (placeAt n there)
   valid-same n l = go (place-alike n l)
     where
-      go : AlikePlace (placeAt n a) (placeAt n b) → validPlace n (placeAt n a) ≡ validPlace n (placeAt n b)
+      go : AlikePlace (placeAt n here) (placeAt n there) → validPlace n (placeAt n here) ≡ validPlace n (placeAt n there)
       go (inl e) = ap (validPlace n) e
       go (inr r) = reheaded-valid _ _ r n
 
-  size-same : (n : ℕ) → 1 ≤ n → sizeOf (placeAt n a) ≡ sizeOf (placeAt n b)
+  size-same : (n : ℕ) → 1 ≤ n → sizeOf (placeAt n here) ≡ sizeOf (placeAt n there)
   size-same n l = go (place-alike n l)
     where
-      go : AlikePlace (placeAt n a) (placeAt n b) → sizeOf (placeAt n a) ≡ sizeOf (placeAt n b)
+      go : AlikePlace (placeAt n here) (placeAt n there) → sizeOf (placeAt n here) ≡ sizeOf (placeAt n there)
       go (inl e) = ap sizeOf e
       go (inr r) = reheaded-size _ _ r
 
-  run-same : (k n : ℕ) → 1 ≤ n → length (run n (placesFrom k n a)) ≡ length (run n (placesFrom k n b))
+  run-same : (k n : ℕ) → 1 ≤ n → length (run n (placesFrom k n here)) ≡ length (run n (placesFrom k n there))
   unfolding placesFrom runBy
   run-same zero n l = refl
-  run-same (suc k) n l = rw (valid-same n l) (one-more (validPlace n (placeAt n b)) _ _ _ _ (run-same k (n + 1) (omega arith)))
+  run-same (suc k) n l = rw (valid-same n l) (one-more (validPlace n (placeAt n there)) _ _ _ _ (run-same k (n + 1) (omega arith)))
 
-  mark-same : markOf N a ≡ markOf N b
+  mark-same : markOf N here ≡ markOf N there
   unfolding markOf logOf
   mark-same = run-same N 1 (omega arith)
 
-  count-same : (k n : ℕ) → length (placesFrom k n a) ≡ length (placesFrom k n b)
+  count-same : (k n : ℕ) → length (placesFrom k n here) ≡ length (placesFrom k n there)
   unfolding placesFrom
   count-same zero n = refl
   count-same (suc k) n = ap suc (count-same k (n + 1))
 
-  records-same : (k n : ℕ) → 1 ≤ n → recordsSize (placesFrom k n a) ≡ recordsSize (placesFrom k n b)
+  records-same : (k n : ℕ) → 1 ≤ n → recordsSize (placesFrom k n here) ≡ recordsSize (placesFrom k n there)
   unfolding placesFrom recordsSize recordSize
   records-same zero n l = refl
   records-same (suc k) n l = rw (size-same n l, records-same k (n + 1) (omega arith))
 
-  current-same : currentOf a ≡ currentOf b
+  current-same : currentOf here ≡ currentOf there
   unfolding currentOf
   current-same = rw (S .first, S .second)
 
-  held-same : (c : Current) → heldOf c a ≡ heldOf c b
+  held-same : (c : Current) → heldOf c here ≡ heldOf c there
   held-same First = ap slotOf (S .first)
   held-same Second = ap slotOf (S .second)
   held-same Neither = refl
 
-  slot-same : storedSlot a ≡ storedSlot b
+  slot-same : storedSlot here ≡ storedSlot there
   unfolding storedSlot
-  slot-same = ap (λ (c : Current). heldOf c a) current-same ∙ held-same (currentOf b)
+  slot-same = ap (λ (c : Current). heldOf c here) current-same ∙ held-same (currentOf there)
 
-  -- ---- what a replica's rows look at
+  -- ---- what here replica's rows look at
 
-  no-slot : noSlot a ≡ noSlot b
+  no-slot : noSlot here ≡ noSlot there
   unfolding noSlot
   no-slot = rw current-same
 
-  promise-above : (session : ℕ) → promiseAbove session a ≡ promiseAbove session b
+  promise-above : (session : ℕ) → promiseAbove session here ≡ promiseAbove session there
   unfolding promiseAbove
   promise-above session = rw slot-same
 
-  promise-differs : (session : ℕ) → promiseDiffers session a ≡ promiseDiffers session b
+  promise-differs : (session : ℕ) → promiseDiffers session here ≡ promiseDiffers session there
   unfolding promiseDiffers
   promise-differs session = rw slot-same
 
-  mark-differs : (recorded : ℕ) → markDiffers N recorded a ≡ markDiffers N recorded b
+  mark-differs : (recorded : ℕ) → markDiffers N recorded here ≡ markDiffers N recorded there
   unfolding markDiffers
   mark-differs recorded = rw mark-same
 
-  other-sizes : (k : ℕ) (files : Files) → otherSizes (placesFrom k 1 a) files ≡ otherSizes (placesFrom k 1 b) files
+  other-sizes : (k : ℕ) (files : Files) → otherSizes (placesFrom k 1 here) files ≡ otherSizes (placesFrom k 1 there) files
   unfolding otherSizes
   other-sizes k files = rw (records-same k 1 (omega arith), count-same k 1)
 
 -- ---- a server
 
 -- what the rows look at of a server's record, all but what it holds
-pub record Fields-same (v w : Server) : Type 0 where
+record SameFields (v w : Server) : Type 0 where
   pub phase : v .phase ≡ w .phase
   pub session : v .session ≡ w .session
   pub generation : v .generation ≡ w .generation
@@ -244,7 +246,7 @@ pub record Fields-same (v w : Server) : Type 0 where
   pub issued : v .issued ≡ w .issued
   pub acked : v .acked ≡ w .acked
 
-fields-same : (v w : Server) → withoutHeld v ≡ withoutHeld w → Fields-same v w
+fields-same : (v w : Server) → withoutHeld v ≡ withoutHeld w → SameFields v w
 fields-same v w e =
     record {
       phase = ap (λ (u : Server). u .phase) e;
@@ -260,7 +262,7 @@ fields-same v w e =
 
 -- ---- a call
 
-module _ (h : Shape) (x y : State) (p : Input) (S : Alike (h .places) x y) where
+module _ (h : Shape) (x y : State) (p : Input) (S : AlikeState (h .places) x y) where
   above-same : markAbove h (x .records) ≡ markAbove h (y .records)
   unfolding markAbove serverFits
   above-same =
@@ -270,7 +272,7 @@ module _ (h : Shape) (x y : State) (p : Input) (S : Alike (h .places) x y) where
   abbrev SameRows : Call → Type 0
   SameRows c = listOf (checksOf h x p c) ≡ listOf (checksOf h y p c)
 
-  server : (s : ℕ) → Fields-same (serverAt (x .records) s) (serverAt (y .records) s)
+  server : (s : ℕ) → SameFields (serverAt (x .records) s) (serverAt (y .records) s)
   server s = fields-same _ _ (S .servers s)
 
   -- the vote is over the flags and the recorded marks
@@ -287,6 +289,25 @@ module _ (h : Shape) (x y : State) (p : Input) (S : Alike (h .places) x y) where
       → tooFewClean r (serverAt (x .records) s) (voteMark r (serverAt (x .records) s)) ≡ tooFewClean r (serverAt (y .records) s) (voteMark r (serverAt (y .records) s))
   clean-same s = ap (λ (u : Server). tooFewClean r u (voteMark r u)) (S .servers s)
 
+  -- 18 to 20, of a replica that server s has sent a message to
+  received-same : (s i : ℕ) (f : Fate)
+      → receivedAt (h .places) (serverAt (x .records) s) i (x .media) f ≡ receivedAt (h .places) (serverAt (y .records) s) i (y .media) f
+  received-same s i f =
+      let v = server s in
+      let m = S .media i in
+      rw (v .session, v .marks, no-slot _ _ _ _ m, promise-differs _ _ _ _ m _, mark-differs _ _ _ _ m _)
+
+  refuses-same : (s i : ℕ) → refusesAt (h .places) (serverAt (x .records) s) (x .media) i ≡ refusesAt (h .places) (serverAt (y .records) s) (y .media) i
+  refuses-same s i =
+      let v = server s in
+      let m = S .media i in
+      rw (v .session, v .marks, no-slot _ _ _ _ m, promise-differs _ _ _ _ m _, mark-differs _ _ _ _ m _)
+
+  exported-same : (s i : ℕ)
+      → otherSizes (exportedPlaces (h .places) (serverAt (x .records) s) i (x .media)) (p .files)
+      ≡ otherSizes (exportedPlaces (h .places) (serverAt (y .records) s) i (y .media)) (p .files)
+  exported-same s i = let v = server s in rw (v .marks, v .acked, other-sizes _ _ _ _ (S .media i) _ _)
+
   rows-same : (c : Call) → SameRows c
   rows-same (call.Take s f) = let v = server s in rw (S .size, S .tables, above-same, v .phase, S .register)
   rows-same (call.Prepare s i f) =
@@ -295,38 +316,26 @@ module _ (h : Shape) (x y : State) (p : Input) (S : Alike (h .places) x y) where
       rw (S .size, S .tables, above-same, v .phase, v .session, no-slot _ _ _ _ m, promise-above _ _ _ _ m _)
   rows-same (call.Copy s a b f) =
       let v = server s in
-      let m = S .media a in
-      let n = S .media b in
-      rw (S .size, S .tables, above-same, v .phase, v .known, v .dropped, v .marks, v .session)
-      (rw (no-slot _ _ _ _ m, promise-differs _ _ _ _ m _, mark-differs _ _ _ _ m _, no-slot _ _ _ _ n, promise-differs _ _ _ _ n _, mark-differs _ _ _ _ n _))
+      rw (received-same s b f, refuses-same s a, S .size, S .tables, above-same, v .phase, v .known, v .dropped, v .marks)
   rows-same (call.Trim s i f) =
       let v = server s in
-      let m = S .media i in
-      rw (S .size, S .tables, above-same, v .phase, undecided-same s, vote-same s, v .known, v .dropped, v .marks, v .session)
-      (rw (no-slot _ _ _ _ m, promise-differs _ _ _ _ m _, mark-differs _ _ _ _ m _))
+      rw (received-same s i f, S .size, S .tables, above-same, v .phase, undecided-same s, vote-same s, v .known, v .dropped, v .marks)
   rows-same (call.Open s f) =
       let v = server s in rw (S .size, S .tables, above-same, v .phase, undecided-same s, clean-same s, v .session, S .register)
   rows-same (call.Issue s q) = let v = server s in rw (S .size, S .tables, above-same, v .phase, v .generation, v .acked, v .issued, v .start)
   rows-same (call.Send s i f) =
       let v = server s in
-      let m = S .media i in
-      rw (S .size, S .tables, above-same, v .phase, v .known, v .dropped, v .marks, v .start, v .issued, v .session)
-      (rw (no-slot _ _ _ _ m, promise-differs _ _ _ _ m _, mark-differs _ _ _ _ m _))
+      rw (received-same s i f, S .size, S .tables, above-same, v .phase, v .known, v .dropped, v .marks, v .start, v .issued)
   rows-same (call.Note s i f) =
-      let v = server s in
-      let m = S .media i in
-      rw (S .size, S .tables, above-same, v .phase, v .known, v .dropped, v .marks, v .session)
-      (rw (no-slot _ _ _ _ m, promise-differs _ _ _ _ m _, mark-differs _ _ _ _ m _))
+      let v = server s in rw (received-same s i f, S .size, S .tables, above-same, v .phase, v .known, v .dropped)
   rows-same (call.Read s i n f) =
       let v = server s in
-      let m = S .media i in
-      rw (S .size, S .tables, above-same, v .phase, v .known, v .dropped, v .marks, v .acked, v .session)
-      (rw (no-slot _ _ _ _ m, promise-differs _ _ _ _ m _, mark-differs _ _ _ _ m _))
+      rw (received-same s i f, S .size, S .tables, above-same, v .phase, v .known, v .dropped, v .marks, v .acked)
   rows-same (call.Export s i f) =
       let v = server s in
       let m = S .media i in
-      rw (S .size, S .tables, above-same, v .phase, v .known, v .dropped, v .marks, v .acked, v .session)
-      (rw (no-slot _ _ _ _ m, promise-differs _ _ _ _ m _, mark-differs _ _ _ _ m _, other-sizes _ _ _ _ m _ _))
+      rw (S .size, S .tables, above-same, exported-same s i, v .phase, v .known, v .dropped, v .marks, v .session)
+      (rw (no-slot _ _ _ _ m, promise-differs _ _ _ _ m _, mark-differs _ _ _ _ m _))
   rows-same (call.Stop s) = rw (S .size, S .tables, above-same)
   rows-same call.Reassign = rw (S .size, S .tables, above-same, S .register)
 

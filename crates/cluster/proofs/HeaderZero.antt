@@ -1,6 +1,7 @@
 -- Number 28 (document 02, No. 8) as laws about a whole call. An issue that passes the refusals before 28 is declined by it exactly if its header is 0
--- (`zero-exactly`); these are 1, 2, 3, 5, 10, 11 and 12, and 13, 14, 23 and 15 stand behind it (`just-after-12`). "New requests with header 0 are no longer taken": one that is given an ID has another (`taken`). No other call is ever declined by it
--- (`only-issue`). The statements come first, then their proofs.
+-- (`zero-exactly`). These are 1, 2, 3, 5, 10, 11 and 12, and 13, 14, 23 and 15 stand behind it (`just-after-12`); none of them looks at the header
+-- (`nowhere-else`). "New requests with header 0 are no longer taken": one that is given an ID has another, and so has the record made for it (`taken`).
+-- No other call is ever declined by 28 (`only-issue`). The statements come first, then their proofs.
 -- Assumes nothing.
 use mathlib.Core.Path.{_≡_, refl}
 use mathlib.Core.Bool.{true, false}
@@ -18,6 +19,7 @@ use Rattle.cluster.specs.declared.Call.the-variants as call
 use Rattle.cluster.specs.State.{State}
 use Rattle.cluster.specs.Replies.{ok, no}
 use Rattle.cluster.specs.Refusals.{Input, row, headerZero, rowsOf, pass, firstOf}
+use Rattle.cluster.specs.Effects.{issuedFields}
 use Rattle.cluster.specs.Step.{effect, step}
 use Rattle.cluster.proofs.Rows.{passed}
 use Rattle.cluster.proofs.Numbers.{making, mentions, until, beyond, other-number, given-exactly, ok-passes}
@@ -39,11 +41,23 @@ JustAfter12 =
     → let ws = rowsOf h x (making (call.Issue s q) content locks given stamp files) in
     (map (λ w. w .number) (until 28 ws) ≡ 1 ∷ 2 ∷ 3 ∷ 5 ∷ 10 ∷ 11 ∷ 12 ∷ []) × (map (λ w. w .number) (beyond 28 ws) ≡ 13 ∷ 14 ∷ 23 ∷ 15 ∷ [])
 
+-- the same request with another header
+abbrev pub withHeader : Request → ℕ → Request
+withHeader q k =
+    record { mark = q .mark; client = q .client; generation = q .generation; partition = q .partition; sequence = q .sequence; header = k }
+
+abbrev pub NowhereElse : Type 0
+NowhereElse =
+    (h : Shape) (x : State) (s : ℕ) (q : Request) (k : ℕ) (content locks given : List ℕ) (stamp : Stamp) (files : Files)
+    → let ws = rowsOf h x (making (call.Issue s q) content locks given stamp files) in
+    let us = rowsOf h x (making (call.Issue s (withHeader q k)) content locks given stamp files) in
+    (until 28 ws ≡ until 28 us) × (beyond 28 ws ≡ beyond 28 us)
+
 abbrev pub Taken : Type 0
 Taken =
-    (h : Shape) (x : State) (s : ℕ) (q : Request) (content locks given : List ℕ) (stamp : Stamp) (files : Files) (values : List ℕ)
-    → step h x (making (call.Issue s q) content locks given stamp files) .reply ≡ ok values
-    → 1 ≤ q .header
+    (h : Shape) (x : State) (s : ℕ) (q : Request) (content locks given : List ℕ) (stamp : Stamp) (files : Files) (n : ℕ) (vs : List ℕ)
+    → step h x (making (call.Issue s q) content locks given stamp files) .reply ≡ ok (n ∷ vs)
+    → (1 ≤ q .header) × (issuedFields n q .header ≡ q .header)
 
 -- an issue of a request with header 0
 pub record ZeroIssue (c : Call) : Type 0 where
@@ -80,12 +94,16 @@ pub just-after-12 : JustAfter12
 unfolding until beyond
 just-after-12 h x s q content locks given stamp files = (refl, refl)
 
+pub nowhere-else : NowhereElse
+unfolding until beyond
+nowhere-else h x s q k content locks given stamp files = (refl, refl)
+
 pub taken : Taken
 unfolding step
-taken h x s q content locks given stamp files values r =
+taken h x s q content locks given stamp files n vs r =
     let p = making (call.Issue s q) content locks given stamp files in
-    let all = ok-passes (rowsOf h x p) x (effect h x p (p .call)) values r in
-    omega (arith, eqb-false (q .header) 0 (passed (rowsOf h x p) all 28))
+    let all = ok-passes (rowsOf h x p) x (effect h x p (p .call)) (n ∷ vs) r in
+    (omega (arith, eqb-false (q .header) 0 (passed (rowsOf h x p) all 28)), refl)
 
 -- a call whose list does not have 28 is not declined by it
 unmentioned : (h : Shape) (x : State) (p : Input) (values : List ℕ) → mentions 28 (rowsOf h x p) ≡ false → step h x p .reply ≡ no 28 values → ⊥

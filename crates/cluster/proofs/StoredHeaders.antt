@@ -1,7 +1,7 @@
 -- Document 02, No. 8: "Stored ones stay readable, are copied in recovery and exported." Two states that differ only in headers of stored records (and so in
 -- the checks over them) and in what servers hold decline the same calls by the same numbers, whichever call it is: `header-blind`. So a call that would go on
--- with a record of another header goes on with one of header 0; what it then does with it is said of any bytes (AsStored.antt). Such states there are: a place
--- of any medium can be written with another header (`reheads`). The statements come first, then their proofs.
+-- with a record of another header goes on with one of header 0; of what it then does with it AsStored.antt says what the request names. Such media there are:
+-- a place of any medium can be written with another header (`reheads`). The statements come first, then their proofs.
 -- Assumes nothing.
 use mathlib.Core.Path.{_≡_, refl, sym, ap, ap₂, _∙_}
 use mathlib.Core.Bool.{Bool, true, false, not, _&&_, cond}
@@ -210,7 +210,7 @@ module _ (N i : ℕ) (one other : List ℕ) (S : AlikeMedium N (mediumAt N i one
   unfolding storedSlot
   slot-same = ap (λ (c : Current). heldOf c here) current-same ∙ held-same (currentOf there)
 
-  -- ---- what here replica's rows look at
+  -- ---- what a replica's rows look at
 
   no-slot : noSlot here ≡ noSlot there
   unfolding noSlot

@@ -1,13 +1,12 @@
--- What is stored is found, read, copied and sent as it stands, whatever bytes it has. Document 02, No. 8: "Stored ones stay readable, are copied in recovery".
--- A prepare that is answered ok finds the log's mark, cut to the closing mark; a trim leaves it cut to the majority mark, and a note as it was (`prepared`,
--- `trimmed`, `noted`). A read that is answered ok gives the place's bytes (`read-as-stored`), a copy leaves in the place behind b's mark what stands in a's
--- (`copied-as-stored`), a send what the server holds (`sent-as-held`; the eight records have their 576 bytes, as the type of a running server's say). Of an
--- export that is Exports.antt `exports`. The statements come first, then their proofs.
+-- What is read, copied and sent is the record as it stands, whatever bytes it has. Document 02, No. 8: "Stored ones stay readable, are copied in recovery": a
+-- read that is answered ok gives the place's bytes (`read-as-stored`), a copy leaves in the place behind b's mark what stands in a's (`copied-as-stored`), a
+-- send what the server holds (`sent-as-held`; the eight records have their 576 bytes, as their type says). Of an export that is Exports.antt `exports`.
+-- The statements come first, then their proofs.
 -- Assumes nothing.
 use mathlib.Core.Path.{_≡_, ap, _∙_}
 use mathlib.Core.Bool.{Bool, true, false, not, _&&_, _||_, false≢true}
-use mathlib.Core.List.{List, [], _∷_}
-use Prim.Native.Nat.{ℕ, _+_, _*_, _≤_, _<_, min}
+use mathlib.Core.List.{List}
+use Prim.Native.Nat.{ℕ, _+_, _*_, _≤_, _<_}
 use native.Mathlib.Omega.{arith}
 use lib.ListN.{length}
 use lib.Dec.{eqb, leb}
@@ -17,55 +16,30 @@ use Rattle.octets.specs.Octets.{writeAt}
 use Rattle.octets.proofs.Laws.{length-part, length-write}
 use Rattle.fate.specs.declared.Fate.{Fate}
 use Rattle.fate.specs.declared.Fate.the-variants.{Answered, Lost, AnswerLost, Cut}
-use Rattle.fate.specs.Fates.{Write, allOf, after}
+use Rattle.fate.specs.Fates.{allOf, after}
 use Rattle.storage.specs.Sizes.{placesLimit, placeSize, mediumSize, placeOffset}
 use Rattle.storage.specs.declared.operation.Operation.the-variants as op
-use Rattle.storage.specs.Log.{placeAt, markOf}
-use Rattle.storage.specs.Operations.{mediumAt, closedMark, writesOf}
+use Rattle.storage.specs.Log.{placeAt}
+use Rattle.storage.specs.Operations.{mediumAt}
 use Rattle.storage.proofs.Blocks.{place-same}
-use Rattle.storage.proofs.Marks.{prepared-mark, trimmed-mark, noted-mark}
 use Rattle.segment.specs.declared.header.Stamp.{Stamp}
 use Rattle.segment.specs.Pair.{Files}
 use Rattle.cluster.specs.declared.Shape.{Shape}
 use Rattle.cluster.specs.declared.Server.{Server}
 use Rattle.cluster.specs.declared.Call.the-variants as call
-use Rattle.cluster.specs.State.{State, tableSize, heldSize, serverAt, entryAt, markAt, indexOf, recordOf}
+use Rattle.cluster.specs.State.{State, tableSize, heldSize, serverAt, markAt, indexOf, recordOf}
 use Rattle.cluster.specs.Replies.{ok}
-use Rattle.cluster.specs.Refusals.{replicasFit, outside, answered, noSlot, promiseAbove, promiseDiffers, markDiffers, refusesPrepare, refusesAt, voteMark, rowsOf}
-use Rattle.cluster.specs.Effects.{mediumAfter, targetOf, prepareOperation, prepareEffect, trimEffect, noteEffect, readEffect, appendEffect}
+use Rattle.cluster.specs.Refusals.{replicasFit, outside, answered, noSlot, promiseDiffers, markDiffers, refusesAt, rowsOf}
+use Rattle.cluster.specs.Effects.{readEffect, appendEffect}
 use Rattle.cluster.specs.Step.{effect, unless, step}
 use Rattle.cluster.proofs.Blocks.{room, block-same}
 use Rattle.cluster.proofs.Rows.{passed}
 use Rattle.cluster.proofs.Marks.{marks-fit}
 use Rattle.cluster.proofs.Numbers.{making, ok-passes}
-use Rattle.cluster.proofs.Decides.{same-values}
 use Rattle.cluster.proofs.Reading.{is-answered}
 use Rattle.cluster.proofs.Window.{within}
 
 -- ---- the statements
-
--- m is the replica's medium
-abbrev pub Prepared : Type 0
-Prepared =
-    (h : Shape) (x : State) (s i : ℕ) (f : Fate) (content locks given : List ℕ) (stamp : Stamp) (files : Files) (values : List ℕ)
-    → let m = mediumAt (h .places) i (x .media) in
-    let entry = entryAt (serverAt (x .records) s .entries) i in
-    step h x (making (call.Prepare s i f) content locks given stamp files) .reply ≡ ok values
-    → values ≡ closedMark (targetOf (entry .closing)) (markOf (h .places) m) ∷ []
-
-abbrev pub Trimmed : Type 0
-Trimmed =
-    (h : Shape) (x : State) (s i : ℕ) (f : Fate) (content locks given : List ℕ) (stamp : Stamp) (files : Files) (values : List ℕ)
-    → let m = mediumAt (h .places) i (x .media) in
-    step h x (making (call.Trim s i f) content locks given stamp files) .reply ≡ ok values
-    → values ≡ min (voteMark (h .replicas) (serverAt (x .records) s)) (markOf (h .places) m) ∷ []
-
-abbrev pub Noted : Type 0
-Noted =
-    (h : Shape) (x : State) (s i : ℕ) (f : Fate) (content locks given : List ℕ) (stamp : Stamp) (files : Files) (values : List ℕ)
-    → let m = mediumAt (h .places) i (x .media) in
-    step h x (making (call.Note s i f) content locks given stamp files) .reply ≡ ok values
-    → values ≡ markOf (h .places) m ∷ []
 
 abbrev pub ReadAsStored : Type 0
 ReadAsStored =
@@ -94,7 +68,7 @@ SentAsHeld =
 
 -- ---- a record in the place behind a mark
 
-place-length : (N n : ℕ) (m : List ℕ) → length m ≡ mediumSize N → 1 ≤ n → n ≤ N → length (placeAt n m) ≡ placeSize
+pub place-length : (N n : ℕ) (m : List ℕ) → length m ≡ mediumSize N → 1 ≤ n → n ≤ N → length (placeAt n m) ≡ placeSize
 unfolding placeAt
 place-length N n m e lo hi = length-part (placeOffset n) placeSize m (omega (arith, e))
 
@@ -124,7 +98,7 @@ module _ (r N : ℕ) (x : State) (s b : ℕ) (bs given : List ℕ) (size : lengt
 -- ---- what the passed rows leave known
 
 -- 1
-media-size : (h : Shape) (media tables : ℕ) → outside h media tables ≡ false → media ≡ h .replicas * mediumSize (h .places)
+pub media-size : (h : Shape) (media tables : ℕ) → outside h media tables ≡ false → media ≡ h .replicas * mediumSize (h .places)
 unfolding outside
 media-size h media tables e =
     let fits = eqb media (h .replicas * mediumSize (h .places)) in
@@ -145,68 +119,6 @@ not-refused N v media i true a slot promise mark = rw (slot, promise, mark)
 not-refused N v media i false a slot promise mark = absurd (false≢true a)
 
 -- ---- their proofs
-
--- what a message that is answered and not declined leaves
-left : (f : Fate) → answered f ≡ true → (d : Bool) → d ≡ false → (given : List ℕ) (ws : List Write) (m : List ℕ) → mediumAfter d f given ws m ≡ allOf ws m
-unfolding after
-left Answered a d e given ws m = rw e
-left Lost a d e given ws m = absurd (false≢true a)
-left AnswerLost a d e given ws m = absurd (false≢true a)
-left (Cut w k) a d e given ws m = absurd (false≢true a)
-
--- 18 and 19, of a prepare that is answered
-not-refused-prepare : (session : ℕ) (m : List ℕ) (t : Bool) → t ≡ true → (t && noSlot m) ≡ false → (t && promiseAbove session m) ≡ false → refusesPrepare session m ≡ false
-not-refused-prepare session m true a slot promise = rw (slot, promise)
-not-refused-prepare session m false a slot promise = absurd (false≢true a)
-
-pub prepared : Prepared
-unfolding step unless prepareEffect
-prepared h x s i f content locks given stamp files values q =
-    let p = making (call.Prepare s i f) content locks given stamp files in
-    let through = ok-passes (rowsOf h x p) x (effect h x p (p .call)) values q in
-    let none = passed (rowsOf h x p) through in
-    let N = h .places in
-    let v = serverAt (x .records) s in
-    let m = mediumAt N i (x .media) in
-    let size = medium-size (h .replicas) N x s i [] given (media-size h (length (x .media)) (length (x .tables)) (none 1)) (leb-false (h .replicas) i (none 4)) in
-    let t = is-answered (answered f) _ values (rw through at q) in
-    let whole = left f t (refusesPrepare (v .session) m) (not-refused-prepare (v .session) m (answered f) t (none 18) (none 19)) given (writesOf N [] (prepareOperation v i) m) m in
-    same-values (answered f) _ values (rw through at q)
-    ∙ ap (λ (n : List ℕ). markOf N n ∷ []) whole
-    ∙ ap (λ (k : ℕ). k ∷ []) (prepared-mark N (v .session) (targetOf (entryAt (v .entries) i .closing)) m size)
-
-pub trimmed : Trimmed
-unfolding step unless trimEffect
-trimmed h x s i f content locks given stamp files values q =
-    let p = making (call.Trim s i f) content locks given stamp files in
-    let through = ok-passes (rowsOf h x p) x (effect h x p (p .call)) values q in
-    let none = passed (rowsOf h x p) through in
-    let N = h .places in
-    let v = serverAt (x .records) s in
-    let m = mediumAt N i (x .media) in
-    let d = voteMark (h .replicas) v in
-    let size = medium-size (h .replicas) N x s i [] given (media-size h (length (x .media)) (length (x .tables)) (none 1)) (leb-false (h .replicas) i (none 4)) in
-    let t = is-answered (answered f) _ values (rw through at q) in
-    let whole = left f t (refusesAt N v (x .media) i) (not-refused N v (x .media) i (answered f) t (none 18) (none 19) (none 20)) given (writesOf N [] (op.Trim d) m) m in
-    same-values (answered f) _ values (rw through at q)
-    ∙ ap (λ (n : List ℕ). markOf N n ∷ []) whole
-    ∙ ap (λ (k : ℕ). k ∷ []) (trimmed-mark N d m size)
-
-pub noted : Noted
-unfolding step unless noteEffect
-noted h x s i f content locks given stamp files values q =
-    let p = making (call.Note s i f) content locks given stamp files in
-    let through = ok-passes (rowsOf h x p) x (effect h x p (p .call)) values q in
-    let none = passed (rowsOf h x p) through in
-    let N = h .places in
-    let v = serverAt (x .records) s in
-    let m = mediumAt N i (x .media) in
-    let size = medium-size (h .replicas) N x s i [] given (media-size h (length (x .media)) (length (x .tables)) (none 1)) (leb-false (h .replicas) i (none 4)) in
-    let t = is-answered (answered f) _ values (rw through at q) in
-    let whole = left f t (refusesAt N v (x .media) i) (not-refused N v (x .media) i (answered f) t (none 18) (none 19) (none 20)) given (writesOf N [] (op.Note (v .start) (markAt v i)) m) m in
-    same-values (answered f) _ values (rw through at q)
-    ∙ ap (λ (n : List ℕ). markOf N n ∷ []) whole
-    ∙ ap (λ (k : ℕ). k ∷ []) (noted-mark N (v .start) (markAt v i) m size)
 
 pub read-as-stored : ReadAsStored
 unfolding step unless readEffect

@@ -93,7 +93,7 @@ ok-reply : (ws : List Row) (x : State) (e : Result) (values : List ℕ) → rest
 unfolding unless
 ok-reply ws x e values q = rw (ok-passes ws x e values q) at q
 
-pub same-values : (b : Bool) (us vs : List ℕ) → cond b (ok us) silent ≡ ok vs → vs ≡ us
+same-values : (b : Bool) (us vs : List ℕ) → cond b (ok us) silent ≡ ok vs → vs ≡ us
 same-values true us vs e = cc
 same-values false us vs e = let z : _≡_ {A = ℕ} 0 1 = cc in absurd (omega arith)
 

@@ -1,7 +1,7 @@
 -- Document 02, No. 8: "Stored ones stay readable, are copied in recovery and exported." Two states that differ only in headers of stored records (and so in
 -- the checks over them) and in what servers hold decline the same calls by the same numbers, whichever call it is: `header-blind`. So a call that would go on
--- with a record of another header goes on with one of header 0; of what it then does with it AsStored.antt says what the request names. Such media there are:
--- a place of any medium can be written with another header (`reheads`). The statements come first, then their proofs.
+-- with a record of another header goes on with one of header 0; StaysAlike.antt says the same of what it then does. Such media there are: a place of any
+-- medium can be written with another header (`reheads`). The statements come first, then their proofs.
 -- Assumes nothing.
 use mathlib.Core.Path.{_≡_, refl, sym, ap, ap₂, _∙_}
 use mathlib.Core.Bool.{Bool, true, false, not, _&&_, cond}
@@ -141,6 +141,24 @@ one-more : (t : Bool) (p q : List ℕ) (ps qs : List (List ℕ)) → length ps �
 one-more true p q ps qs e = ap suc e
 one-more false p q ps qs e = refl
 
+module _ (N : ℕ) (a b : List ℕ) (S : AlikeMedium N a b) where
+  valid-same : (n : ℕ) → 1 ≤ n → n ≤ N → validPlace n (placeAt n a) ≡ validPlace n (placeAt n b)
+  valid-same n lo hi = go (S .places n lo hi)
+    where
+      go : AlikePlace (placeAt n a) (placeAt n b) → validPlace n (placeAt n a) ≡ validPlace n (placeAt n b)
+      go (inl e) = ap (validPlace n) e
+      go (inr r) = reheaded-valid _ _ r n
+
+  run-same : (k n : ℕ) → 1 ≤ n → n + k ≤ suc N → length (run n (placesFrom k n a)) ≡ length (run n (placesFrom k n b))
+  unfolding placesFrom runBy
+  run-same zero n lo hi = refl
+  run-same (suc k) n lo hi =
+      rw (valid-same n lo (omega arith)) (one-more (validPlace n (placeAt n b)) _ _ _ _ (run-same k (n + 1) (omega arith) (omega arith)))
+
+  pub mark-alike : markOf N a ≡ markOf N b
+  unfolding markOf logOf
+  mark-alike = run-same N 1 (omega arith) (omega arith)
+
 -- above its last place a medium has nothing
 above-last : (N i n : ℕ) (media : List ℕ) → N < n → placeAt n (mediumAt N i media) ≡ []
 unfolding placeAt
@@ -157,19 +175,12 @@ module _ (N i : ℕ) (one other : List ℕ) (S : AlikeMedium N (mediumAt N i one
   abbrev there : List ℕ
   there = mediumAt N i other
 
-  place-alike : (n : ℕ) → 1 ≤ n → AlikePlace (placeAt n here) (placeAt n there)
+  pub place-alike : (n : ℕ) → 1 ≤ n → AlikePlace (placeAt n here) (placeAt n there)
   place-alike n l = go (lt-or-le N n)
     where
       go : (N < n) ⊎ (n ≤ N) → AlikePlace (placeAt n here) (placeAt n there)
       go (inl m) = inl (above-last N i n one m ∙ sym (above-last N i n other m))
       go (inr m) = S .places n l m
-
-  valid-same : (n : ℕ) → 1 ≤ n → validPlace n (placeAt n here) ≡ validPlace n (placeAt n there)
-  valid-same n l = go (place-alike n l)
-    where
-      go : AlikePlace (placeAt n here) (placeAt n there) → validPlace n (placeAt n here) ≡ validPlace n (placeAt n there)
-      go (inl e) = ap (validPlace n) e
-      go (inr r) = reheaded-valid _ _ r n
 
   size-same : (n : ℕ) → 1 ≤ n → sizeOf (placeAt n here) ≡ sizeOf (placeAt n there)
   size-same n l = go (place-alike n l)
@@ -178,14 +189,8 @@ module _ (N i : ℕ) (one other : List ℕ) (S : AlikeMedium N (mediumAt N i one
       go (inl e) = ap sizeOf e
       go (inr r) = reheaded-size _ _ r
 
-  run-same : (k n : ℕ) → 1 ≤ n → length (run n (placesFrom k n here)) ≡ length (run n (placesFrom k n there))
-  unfolding placesFrom runBy
-  run-same zero n l = refl
-  run-same (suc k) n l = rw (valid-same n l) (one-more (validPlace n (placeAt n there)) _ _ _ _ (run-same k (n + 1) (omega arith)))
-
   mark-same : markOf N here ≡ markOf N there
-  unfolding markOf logOf
-  mark-same = run-same N 1 (omega arith)
+  mark-same = mark-alike N here there S
 
   count-same : (k n : ℕ) → length (placesFrom k n here) ≡ length (placesFrom k n there)
   unfolding placesFrom
@@ -197,7 +202,7 @@ module _ (N i : ℕ) (one other : List ℕ) (S : AlikeMedium N (mediumAt N i one
   records-same zero n l = refl
   records-same (suc k) n l = rw (size-same n l, records-same k (n + 1) (omega arith))
 
-  current-same : currentOf here ≡ currentOf there
+  pub current-same : currentOf here ≡ currentOf there
   unfolding currentOf
   current-same = rw (S .first, S .second)
 
@@ -206,25 +211,25 @@ module _ (N i : ℕ) (one other : List ℕ) (S : AlikeMedium N (mediumAt N i one
   held-same Second = ap slotOf (S .second)
   held-same Neither = refl
 
-  slot-same : storedSlot here ≡ storedSlot there
+  pub slot-same : storedSlot here ≡ storedSlot there
   unfolding storedSlot
   slot-same = ap (λ (c : Current). heldOf c here) current-same ∙ held-same (currentOf there)
 
   -- ---- what a replica's rows look at
 
-  no-slot : noSlot here ≡ noSlot there
+  pub no-slot : noSlot here ≡ noSlot there
   unfolding noSlot
   no-slot = rw current-same
 
-  promise-above : (session : ℕ) → promiseAbove session here ≡ promiseAbove session there
+  pub promise-above : (session : ℕ) → promiseAbove session here ≡ promiseAbove session there
   unfolding promiseAbove
   promise-above session = rw slot-same
 
-  promise-differs : (session : ℕ) → promiseDiffers session here ≡ promiseDiffers session there
+  pub promise-differs : (session : ℕ) → promiseDiffers session here ≡ promiseDiffers session there
   unfolding promiseDiffers
   promise-differs session = rw slot-same
 
-  mark-differs : (recorded : ℕ) → markDiffers N recorded here ≡ markDiffers N recorded there
+  pub mark-differs : (recorded : ℕ) → markDiffers N recorded here ≡ markDiffers N recorded there
   unfolding markDiffers
   mark-differs recorded = rw mark-same
 

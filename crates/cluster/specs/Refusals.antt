@@ -293,11 +293,11 @@ seen f n b = row n (answered f && b)
 
 -- ================ the lists
 
--- "Checked in this order": the order of the numbers, which each call's own list follows (proofs/Declines); 28 is "just after 12", 23 "just after 14",
--- and the 1 of an export's two files "is checked after 20"
+-- "Checked in this order": the order of the numbers, which each call's own list follows (proofs/Declines); 29, which is a recovery's alone (crate
+-- recovery), is "just after 5", 28 "just after 12", 23 "just after 14", and the 1 of an export's two files "is checked after 20"
 abbrev pub order : List ℕ
 order =
-    1 ∷ 2 ∷ 3 ∷ 4 ∷ 5 ∷ 6 ∷ 7 ∷ 8 ∷ 9 ∷ 10 ∷ 11 ∷ 12 ∷ 28 ∷ 13 ∷ 14 ∷ 23 ∷ 15 ∷ 16 ∷ 17 ∷ 18 ∷ 19 ∷ 20 ∷ 1 ∷ 21 ∷ 22 ∷ []
+    1 ∷ 2 ∷ 3 ∷ 4 ∷ 5 ∷ 29 ∷ 6 ∷ 7 ∷ 8 ∷ 9 ∷ 10 ∷ 11 ∷ 12 ∷ 28 ∷ 13 ∷ 14 ∷ 23 ∷ 15 ∷ 16 ∷ 17 ∷ 18 ∷ 19 ∷ 20 ∷ 1 ∷ 21 ∷ 22 ∷ []
 
 -- what a call is checked for: before anything is looked at, before its message is sent, and by the receiver of the message
 pub record Checks : Type 0 where

@@ -107,14 +107,15 @@ pub enum Call {
     Reassign,
 }
 
-// Why a call is declined, in the order in which it is checked (document 01's list, and document 02's numbers that join it). Locked: the lock
-// and its estimate.
+// Why a call is declined, in the order in which it is checked (document 01's list, and document 02's numbers that join it). UnfitList is a recovery's
+// alone (crate driver). Locked: the lock and its estimate.
 pub enum Refusal {
     OutsideShape,
     MarkAbovePlaces,
     NoSuchServer,
     NoSuchReplica,
     OtherPhase,
+    UnfitList,
     UnfitFate,
     ReplicaOut,
     Undecided,

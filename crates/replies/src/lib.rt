@@ -52,6 +52,7 @@ pub fn number_of(why: Refusal) -> u64
         Refusal::NoSuchServer => 3,
         Refusal::NoSuchReplica => 4,
         Refusal::OtherPhase => 5,
+        Refusal::UnfitList => 29,
         Refusal::UnfitFate => 6,
         Refusal::ReplicaOut => 7,
         Refusal::Undecided => 8,

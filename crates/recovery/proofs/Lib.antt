@@ -1,0 +1,1 @@
+-- Laws of a recovery and the theorem that it arrives.

@@ -1,0 +1,2 @@
+-- A recovery: the calls that it makes and what they leave.
+pub mod Recovery

@@ -1,1 +1,2 @@
 -- Laws of a recovery and the theorem that it arrives.
+pub mod Steady

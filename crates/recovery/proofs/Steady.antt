@@ -150,7 +150,7 @@ all-intro p zero f = refl
 all-intro p (suc n) f = rw (all-intro p n (λ i l. f i (omega arith)), f n (omega arith))
 
 -- an element of a list in which one was replaced
-set-any : {A : Type 0} (P : A → Type 0) (l : List A) (i j : ℕ) (a d : A) → P (getD l j d) → P a → P (getD (set l i a) j d)
+pub set-any : {A : Type 0} (P : A → Type 0) (l : List A) (i j : ℕ) (a d : A) → P (getD l j d) → P a → P (getD (set l i a) j d)
 set-any P [] i j a d p q = p
 set-any P (x ∷ xs) zero zero a d p q = q
 set-any P (x ∷ xs) zero (suc j) a d p q = p
@@ -277,7 +277,7 @@ registered h g e true = e
 registered h g e false = e
 
 -- equal elements, the default among them
-equal-at : {A : Type 0} (n i : ℕ) (a : A) → getD (replicate n a) i a ≡ a
+pub equal-at : {A : Type 0} (n i : ℕ) (a : A) → getD (replicate n a) i a ≡ a
 equal-at zero i a = refl
 equal-at (suc n) zero a = refl
 equal-at (suc n) (suc i) a = equal-at n i a

@@ -11,7 +11,7 @@ use native.Mathlib.Decide.{ℕ-discrete}
 use lib.ListN.{length, getD, set, take, length-set}
 use lib.Seq.{getD-set-same}
 use lib.Dec.{eqb, leb, ltb, lit<}
-use borrow.Author.Tests.{ltb-false, le-ltb, lt-leb, eq-eqb, eqb-true, eqb-false, leb-false}
+use borrow.Author.Tests.{ltb-false, le-ltb, lt-leb}
 use Rattle.base.proofs.Tests.{neither, either}
 use Rattle.octets.specs.Octets.{Bytes, part, numbersAt}
 use Rattle.octets.proofs.Laws.{length-part}
@@ -41,15 +41,20 @@ use Rattle.cluster.specs.Effects.{withReplica, withMediumAndServer, targetOf, p
 use Rattle.cluster.specs.Step.{effect, unless, step}
 use Rattle.cluster.proofs.AsStored.{media-size}
 use Rattle.recovery.specs.Recovery as recovery
-use Rattle.recovery.specs.Recovery.{Recovery, Trail, fateAt, one, played, preparing, serverOf}
+use Rattle.recovery.specs.Recovery.{Recovery, Trail, fateAt, one, played, preparing, serverOf, contains, repeats, unlisted}
 use Rattle.recovery.proofs.Steady.{Steady, steady-prepare, medium-size}
 use Rattle.recovery.proofs.Counts.{played-more}
+use Rattle.recovery.proofs.Listed.{first-unique, first-below, first-in, later-in, not-first, in-either, differs}
 use Rattle.recovery.proofs.Underway.{Underway, Good, Same, same-state, same-then, still-good, underway-state, heard-underway, heard-other, heard-good}
 
 -- ---- slots
 
+-- an answered message is as one that no torn write can touch, whatever bytes lie beside it
 answered-cut : (k : ℕ) → Answered ≡ Cut k Torn → ⊥
 answered-cut k q = let z : _≡_ {A = ℕ} 0 1 = cc in omega arith
+
+pub harmless : (N : ℕ) → Harmless N Answered wiped
+harmless N = record { size = length-wiped; torn = λ k q. absurd (answered-cut k q) }
 
 has-slot : (m : List ℕ) → noSlot m ≡ false → HasSlot m
 unfolding noSlot
@@ -161,10 +166,9 @@ module _ (h : Shape) (d : Recovery) (new : ℕ) (t : Trail) (U : Underway h d ne
     fitting : FittingSlot (storedSlot m)
     fitting = stored-fits m (W .bytes) (omega (arith, W .sound .size))
 
-    -- an answered message is as one that no torn write can touch
     kept : Prepared N (v .session) to m m′
     unfolding after
-    kept = prepares N Answered wiped m (W .sound) (record { size = length-wiped; torn = λ k q. absurd (answered-cut k q) }) (v .session) to slot fitting not-above (omega (arith, top, U .session))
+    kept = prepares N Answered wiped m (W .sound) (harmless N) (v .session) to slot fitting not-above (omega (arith, top, U .session))
 
     closed : Closed N (v .session) to m m′
     closed = prepares-all N (v .session) to m (W .sound) slot fitting not-above (omega (arith, top, U .session))
@@ -209,40 +213,6 @@ module _ (h : Shape) (d : Recovery) (new : ℕ) (t : Trail) (U : Underway h d ne
 
 -- ---- all of a list
 
--- what a list without repeats says of its first
-first-unique : (i : ℕ) (is : List ℕ) → recovery.repeats (i ∷ is) ≡ false → (recovery.contains is i ≡ false) × (recovery.repeats is ≡ false)
-unfolding recovery.repeats
-first-unique i is e = neither (recovery.contains is i) (recovery.repeats is) e
-
-first-below : (r i : ℕ) (is : List ℕ) → recovery.unlisted r (i ∷ is) ≡ false → (i < r) × (recovery.unlisted r is ≡ false)
-unfolding recovery.unlisted
-first-below r i is e = let n = neither (leb r i) (recovery.unlisted r is) e in (leb-false r i (n .0), n .1)
-
-first-in : (i : ℕ) (is : List ℕ) → recovery.contains (i ∷ is) i ≡ true
-unfolding recovery.contains
-first-in i is = rw (eq-eqb i i refl)
-
-later-in : (i j : ℕ) (is : List ℕ) → recovery.contains is j ≡ true → recovery.contains (i ∷ is) j ≡ true
-unfolding recovery.contains
-later-in i j is e = go (eqb i j) e
-  where
-    go : (b : Bool) → recovery.contains is j ≡ true → (b || recovery.contains is j) ≡ true
-    go true e = refl
-    go false e = e
-
-not-first : (i j : ℕ) (is : List ℕ) → recovery.contains (i ∷ is) j ≡ false → (j ≡ i → ⊥) × (recovery.contains is j ≡ false)
-unfolding recovery.contains
-not-first i j is e = let n = neither (eqb i j) (recovery.contains is j) e in (λ q. eqb-false i j (n .0) (sym q), n .1)
-
--- whoever is in a list is its first or one of the others
-in-either : (i j : ℕ) (is : List ℕ) → recovery.contains (i ∷ is) j ≡ true → (j ≡ i) ⊎ (recovery.contains is j ≡ true)
-unfolding recovery.contains
-in-either i j is e = ⊎-elim (λ q. inl (sym (eqb-true i j q))) inr (either (eqb i j) (recovery.contains is j) e)
-
--- one that a list has is not one that it has not
-differs : (i j : ℕ) (is : List ℕ) → recovery.contains is j ≡ true → recovery.contains is i ≡ false → j ≡ i → ⊥
-differs i j is a b e = false≢true (sym b ∙ rw (sym e) a)
-
 still-waiting : (h : Shape) (d : Recovery) (t u : Trail) (i : ℕ) → Same h d t u i → Waiting h d t i → Waiting h d u i
 still-waiting h d t u i e w =
     record { sound = subst⁻¹ (Sound (h .places)) (e .medium) (w .sound); bytes = subst⁻¹ Bytes (e .medium) (w .bytes); unknown = e .active ∙ w .unknown }
@@ -265,22 +235,22 @@ module _ (h : Shape) (d : Recovery) (new : ℕ) (seven : h .replicas ≤ 7) (top
 
   pub record All (t : Trail) (is : List ℕ) : Type 0 where
     pub underway : Underway h d new (after-all t is)
-    pub others : (j : ℕ) → recovery.contains is j ≡ false → Same h d t (after-all t is) j
-    pub tried : (i : ℕ) → recovery.contains is i ≡ true → Tried h d new t (after-all t is) i
+    pub others : (j : ℕ) → contains is j ≡ false → Same h d t (after-all t is) j
+    pub tried : (i : ℕ) → contains is i ≡ true → Tried h d new t (after-all t is) i
 
   pub prepare-all : (is : List ℕ) (t : Trail) → Underway h d new t
-      → recovery.repeats is ≡ false → recovery.unlisted (h .replicas) is ≡ false
-      → ((i : ℕ) → recovery.contains is i ≡ true → Waiting h d t i)
+      → repeats is ≡ false → unlisted (h .replicas) is ≡ false
+      → ((i : ℕ) → contains is i ≡ true → Waiting h d t i)
       → ((k : ℕ) → k < after-all t is .count → fateAt d k ≡ Answered)
       → All t is
-  unfolding played recovery.prepares recovery.contains
+  unfolding played recovery.prepares contains
   prepare-all [] t U once below W A = record { underway = U; others = λ j e. same-state h d t t j refl; tried = λ i e. absurd (false≢true e) }
   prepare-all (i ∷ is) t U once below W A =
       let u = one h t (preparing d t i) in
       let f = first-unique i is once in
       let l = first-below (h .replicas) i is below in
       let o = prepare-one h d new t U seven i (l .0) (A (t .count) (omega (arith, played-more h u (recovery.prepares h d u is)))) top (W i (first-in i is)) in
-      let apart : (j : ℕ) → recovery.contains is j ≡ true → j ≡ i → ⊥ = λ j e. differs i j is e (f .0) in
+      let apart : (j : ℕ) → contains is j ≡ true → j ≡ i → ⊥ = λ j e. differs i j is e (f .0) in
       let r = prepare-all is u (o .underway) (f .1) (l .1) (λ j e. still-waiting h d t u j (o .others j (apart j e)) (W j (later-in i j is e))) A in
       let z = after-all u is in
       record {

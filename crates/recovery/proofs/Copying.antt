@@ -262,26 +262,33 @@ module _ (h : Shape) (d : Recovery) (new : ℕ) (seven : h .replicas ≤ 7) (a :
     pub underway : Underway h d new u
     pub source : Source u
     pub others : (j : ℕ) → (j ≡ b → ⊥) → Same h d t u j
+    pub known : activeAt (serverOf d u) b ≡ activeAt (serverOf d t) b
     pub there : After u b
+
+  still-known : (t u : Trail) (b j : ℕ) → Turn t u b → Dec (j ≡ b) → activeAt (serverOf d u) j ≡ activeAt (serverOf d t) j
+  still-known t u b j c (yes q) = rw q (c .known)
+  still-known t u b j c (no q) = c .others j q .active
 
   one-replica : (b : ℕ) (t : Trail) → b < h .replicas → Underway h d new t → Source t → Before t b → let ps = copiesTo h d a mark b t in Answers (played h t ps)
       → (length ps ≡ cond (activeAt (serverOf d t) b) (lacks (serverOf d t) mark b) 0) × Turn t (played h t ps) b
   unfolding played
   one-replica b t lb U s (inr n) A =
-      rw n (refl, record { underway = U; source = s; others = λ j q. same-state h d t t j refl; there = inr n })
+      rw n (refl, record { underway = U; source = s; others = λ j q. same-state h d t t j refl; known = refl; there = inr n })
   one-replica b t lb U s (inl (g, le)) A =
       let n = lacks (serverOf d t) mark b in
       let c = copy-up b lb n t U s g (omega (arith, le)) (rw (g .active) at A) in
-      let u = played h t (copies h d a mark b n t) in
       rw (g .active) (
         c .made,
-        record { underway = c .underway; source = still u c (ℕ-discrete a b); others = c .others; there = inl (c .good, c .there) },
+        record { underway = c .underway; source = still c (ℕ-discrete a b); others = c .others; known = c .good .active ∙ sym (g .active); there = inl (c .good, c .there) },
       )
     where
-      still : (u : Trail) → Along b lb (lacks (serverOf d t) mark b) t (copies h d a mark b (lacks (serverOf d t) mark b) t)
-          → Dec (a ≡ b) → Source (played h t (copies h d a mark b (lacks (serverOf d t) mark b) t))
-      still u c (yes q) = subst⁻¹ (λ (i : ℕ). Good h d new (played h t (copies h d a mark b (lacks (serverOf d t) mark b) t)) i × (markAt (serverOf d (played h t (copies h d a mark b (lacks (serverOf d t) mark b) t))) i ≡ mark)) q (c .good, c .there)
-      still u c (no q) = let o = c .others a q in (still-good h d new t _ a o (s .0), o .mark ∙ s .1)
+      ps : List Input
+      ps = copies h d a mark b (lacks (serverOf d t) mark b) t
+
+      -- a itself lacks nothing
+      still : Along b lb (lacks (serverOf d t) mark b) t ps → Dec (a ≡ b) → Source (played h t ps)
+      still c (yes q) = subst⁻¹ (λ (i : ℕ). Good h d new (played h t ps) i × (markAt (serverOf d (played h t ps)) i ≡ mark)) q (c .good, c .there)
+      still c (no q) = let o = c .others a q in (still-good h d new t (played h t ps) a o (s .0), o .mark ∙ s .1)
 
   abbrev after-all : Trail → List ℕ → Trail
   after-all t bs = played h t (allCopies h d a mark t bs)
@@ -290,12 +297,13 @@ module _ (h : Shape) (d : Recovery) (new : ℕ) (seven : h .replicas ≤ 7) (a :
     pub made : length (allCopies h d a mark t bs) ≡ lacking (serverOf d t) mark bs
     pub underway : Underway h d new (after-all t bs)
     pub others : (j : ℕ) → contains bs j ≡ false → Same h d t (after-all t bs) j
+    pub known : (b : ℕ) → activeAt (serverOf d (after-all t bs)) b ≡ activeAt (serverOf d t) b
     pub there : (b : ℕ) → contains bs b ≡ true → After (after-all t bs) b
 
   pub copy-all : (bs : List ℕ) (t : Trail) → repeats bs ≡ false → unlisted (h .replicas) bs ≡ false → Underway h d new t → Source t
       → ((b : ℕ) → contains bs b ≡ true → Before t b) → Answers (after-all t bs) → All t bs
   unfolding played allCopies lacking contains
-  copy-all [] t once below U s B A = record { made = refl; underway = U; others = λ j e. same-state h d t t j refl; there = λ b e. absurd (false≢true e) }
+  copy-all [] t once below U s B A = record { made = refl; underway = U; others = λ j e. same-state h d t t j refl; known = λ b. refl; there = λ b e. absurd (false≢true e) }
   copy-all (b ∷ bs) t once below U s B A =
       let ps = copiesTo h d a mark b t in
       let u = played h t ps in
@@ -311,6 +319,7 @@ module _ (h : Shape) (d : Recovery) (new : ℕ) (seven : h .replicas ≤ 7) (a :
         made = length-append ps (allCopies h d a mark u bs) ∙ ap₂ _+_ (c .0) (r .made ∙ lacking-same t u bs (λ j e. c .1 .others j (apart j e)));
         underway = subst⁻¹ (Underway h d new) joined (r .underway);
         others = λ j e. let n = not-first b j bs e in subst⁻¹ (λ (y : Trail). Same h d t y j) joined (same-then h d t u z j (c .1 .others j (n .0)) (r .others j (n .1)));
+        known = λ j. ap (λ (y : Trail). activeAt (serverOf d y) j) joined ∙ r .known j ∙ still-known t u b j (c .1) (ℕ-discrete j b);
         there = λ j e. subst⁻¹ (λ (y : Trail). After y j) joined
             (⊎-elim
             (λ q. subst⁻¹ (After z) q (after-still u z b (r .others b (f .0)) (c .1 .there)))

@@ -175,7 +175,7 @@ module _ (h : Shape) (d : Recovery) (new : ℕ) (seven : h .replicas ≤ 7) (t :
 
 module _ (h : Shape) (d : Recovery) (new : ℕ) (seven : h .replicas ≤ 7) (a : ℕ) (la : a < h .replicas) (mark : ℕ) where
   -- a is a good replica at the mark
-  abbrev Source : Trail → Type 0
+  abbrev pub Source : Trail → Type 0
   Source t = Good h d new t a × (markAt (serverOf d t) a ≡ mark)
 
   abbrev Answers : Trail → Type 0
@@ -235,10 +235,10 @@ module _ (h : Shape) (d : Recovery) (new : ℕ) (seven : h .replicas ≤ 7) (a :
   -- ---- and of all
 
   -- a replica of the list: good and not above the mark, or not known; and afterwards
-  abbrev Before : Trail → ℕ → Type 0
+  abbrev pub Before : Trail → ℕ → Type 0
   Before t b = (Good h d new t b × (markAt (serverOf d t) b ≤ mark)) ⊎ (activeAt (serverOf d t) b ≡ false)
 
-  abbrev After : Trail → ℕ → Type 0
+  abbrev pub After : Trail → ℕ → Type 0
   After t b = (Good h d new t b × (markAt (serverOf d t) b ≡ mark)) ⊎ (activeAt (serverOf d t) b ≡ false)
 
   before-still : (t u : Trail) (b : ℕ) → Same h d t u b → Before t b → Before u b

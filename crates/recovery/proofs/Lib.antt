@@ -2,8 +2,10 @@
 pub mod Steady
 pub mod Underway
 pub mod Counts
+pub mod Own
 pub mod Listed
 pub mod Highest
 pub mod Preparing
 pub mod Copying
 pub mod Opening
+pub mod Arrives

@@ -1,6 +1,6 @@
 -- Laws of the list of a recovery: who is in it, and what its refusals leave known.
 -- Assumes nothing.
-use mathlib.Core.Path.{_≡_, refl, sym, _∙_}
+use mathlib.Core.Path.{_≡_, refl, sym, _∙_, subst⁻¹}
 use mathlib.Core.Bool.{Bool, true, false, _||_, false≢true}
 use mathlib.Core.Logic.{_⊎_, inl, inr, ⊎-elim}
 use mathlib.Core.List.{List, [], _∷_}
@@ -43,3 +43,10 @@ in-either i j is e = ⊎-elim (λ q. inl (sym (eqb-true i j q))) inr (either (eq
 -- one that a list has is not one that it has not
 pub differs : (i j : ℕ) (is : List ℕ) → contains is j ≡ true → contains is i ≡ false → j ≡ i → ⊥
 differs i j is a b e = false≢true (sym b ∙ rw (sym e) a)
+
+-- whoever is listed is below R
+pub listed-below : (r i : ℕ) (is : List ℕ) → unlisted r is ≡ false → contains is i ≡ true → i < r
+unfolding contains
+listed-below r i [] below e = absurd (false≢true e)
+listed-below r i (k ∷ is) below e =
+    let l = first-below r k is below in ⊎-elim (λ q. subst⁻¹ (λ (j : ℕ). j < r) q (l .0)) (listed-below r i is (l .1)) (in-either k i is e)

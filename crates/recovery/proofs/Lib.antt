@@ -3,6 +3,7 @@ pub mod Steady
 pub mod Underway
 pub mod Counts
 pub mod Own
+pub mod Staying
 pub mod Listed
 pub mod Highest
 pub mod Preparing

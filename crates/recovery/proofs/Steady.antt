@@ -252,11 +252,14 @@ records-fit h r g s v e k f =
 
 -- ---- the three calls
 
--- a call that is declined leaves the state, and one that passed its list has none of its conditions
-unless-steady : (h : Shape) (x : State) (d : Verdict) (e : Result) → Steady h x → (d ≡ pass → Steady h (e .state)) → Steady h (unless d x e .state)
-unfolding unless
-unless-steady h x pass e s k = k refl
-unless-steady h x (declined n values) e s k = s
+-- what holds of the state before a call and, if it passed its list, of what it does, holds after it: a call that is declined leaves the state
+pub after-call : (P : State → Type 0) (h : Shape) (x : State) (p : Input) → P x → (firstOf (rowsOf h x p) ≡ pass → P (effect h x p (p .call) .state)) → P (step h x p .state)
+unfolding step unless
+after-call P h x p s k = go (firstOf (rowsOf h x p)) refl
+  where
+    go : (d : Verdict) → firstOf (rowsOf h x p) ≡ d → P (unless d x (effect h x p (p .call)) .state)
+    go pass e = k e
+    go (declined n values) e = s
 
 module _ (h : Shape) (x : State) (s : Steady h x) where
   abbrev size : length (x .media) ≡ h .replicas * mediumSize (h .places)
@@ -303,7 +306,7 @@ idle-entries h =
     (λ i l. ap (λ (e : Entry). closingFits (e .closing) (h .places)) (fresh-entries i))
 
 pub steady-take : (h : Shape) (d : Recovery) (t : Trail) → Steady h (t .state) → Steady h (one h t (taking d t) .state)
-unfolding step takeEffect
+unfolding takeEffect
 steady-take h d t s =
     let x = t .state in
     let p = taking d t in
@@ -311,11 +314,11 @@ steady-take h d t s =
     let f = fateAt d (t .count) in
     let e = registered h g (register-fits h (x .records) (s .fits)) (arrives f && not (sessionAtTop (g .session))) in
     let g′ = cond (arrives f && not (sessionAtTop (g .session))) (raisedSession g) g in
-    unless-steady h x (firstOf (rowsOf h x p)) (effect h x p (p .call)) s
+    after-call (Steady h) h x p s
     (λ _. record { inside = s .inside; fits = records-fit h (x .records) g′ (d .server) _ (s .fits) e (handed h g′ e (idle-entries h) (answered f)) })
 
 pub steady-prepare : (h : Shape) (d : Recovery) (t : Trail) (i : ℕ) → Steady h (t .state) → Steady h (one h t (preparing d t i) .state)
-unfolding step prepareEffect
+unfolding prepareEffect
 steady-prepare h d t i s =
     let x = t .state in
     let p = preparing d t i in
@@ -324,7 +327,7 @@ steady-prepare h d t i s =
     let v = serverAt (x .records) (d .server) in
     let m = mediumAt N i (x .media) in
     let ws = writesOf N [] (prepareOperation v i) m in
-    unless-steady h x (firstOf (rowsOf h x p)) (effect h x p (p .call)) s
+    after-call (Steady h) h x p s
     (λ e.
     let none = passed (rowsOf h x p) e in
     let named = leb-false (h .replicas) i (none 4) in
@@ -338,7 +341,7 @@ once-open h true v f = acknowledged h v f
 once-open h false v f = f
 
 pub steady-copy : (h : Shape) (d : Recovery) (t : Trail) (a b : ℕ) → Steady h (t .state) → Steady h (one h t (copying d t a b) .state)
-unfolding step appendEffect
+unfolding appendEffect
 steady-copy h d t a b s =
     let x = t .state in
     let p = copying d t a b in
@@ -348,7 +351,7 @@ steady-copy h d t a b s =
     let m = mediumAt N b (x .media) in
     let n = markAt v b + 1 in
     let bs = placeAt n (mediumAt N a (x .media)) in
-    unless-steady h x (firstOf (rowsOf h x p)) (effect h x p (p .call)) s
+    after-call (Steady h) h x p s
     (λ e.
     let none = passed (rowsOf h x p) e in
     let two = neither (leb (h .replicas) a || leb (h .replicas) b) (eqb a b) (none 4) .0 in

@@ -19,6 +19,7 @@ use Rattle.storage.specs.Log.{markOf, Sound}
 use Rattle.storage.specs.Operations.{mediumAt}
 use Rattle.cluster.specs.declared.Shape.{Shape}
 use Rattle.cluster.specs.declared.Server.{Server}
+use Rattle.cluster.specs.declared.Records.{Records}
 use Rattle.cluster.specs.declared.Phase.the-variants.{Opening}
 use Rattle.cluster.specs.State.{State, noServer, idleServer, serverAt, putServer, markAt, activeAt}
 use Rattle.cluster.specs.Replies.{ok}
@@ -173,33 +174,43 @@ module _ (h : Shape) (d : Recovery) (t : Trail) (steady : Steady h (t .state)) (
       → one h t (taking d t) .reply ≡ ok (new ∷ [])
   taken-reply e a top = ap (λ (u : Trail). u .reply) (after-take e a top)
 
+-- ---- the server's record has replica i set, known or forgotten: still on its way
+
+module _ (h : Shape) (d : Recovery) (new : ℕ) (t : Trail) (U : Underway h d new t) (i : ℕ) (known : Bool) (mark : ℕ)
+    (u : Trail) (e : u .state .records ≡ putServer (t .state .records) (d .server) (withReplica (serverOf d t) i known false mark)) where
+  pub set-server : serverOf d u ≡ withReplica (serverOf d t) i known false mark
+  set-server =
+      ap (λ (r : Records). serverAt r (d .server)) e
+      ∙ getD-set-same (t .state .records .servers) (d .server) (withReplica (serverOf d t) i known false mark) noServer (omega (arith, U .server, U .servers))
+
+  pub set-underway : Steady h (u .state) → Underway h d new u
+  set-underway s =
+      record {
+        steady = s;
+        servers = ap (λ (r : Records). length (r .servers)) e ∙ length-set (t .state .records .servers) (d .server) (withReplica (serverOf d t) i known false mark) ∙ U .servers;
+        server = U .server;
+        phase = ap (λ (v : Server). v .phase) set-server ∙ U .phase;
+        session = ap (λ (v : Server). v .session) set-server ∙ U .session;
+        register = ap (λ (r : Records). r .register .session) e ∙ U .register;
+        known = ap (λ (v : Server). length (v .known)) set-server ∙ length-set (serverOf d t .known) i known ∙ U .known;
+        marks = ap (λ (v : Server). length (v .marks)) set-server ∙ length-set (serverOf d t .marks) i mark ∙ U .marks;
+        dropped = λ j. ap (λ (v : Server). getD (v .dropped) j false) set-server
+            ∙ set-any (λ (b : Bool). b ≡ false) (serverOf d t .dropped) i j false false (U .dropped j) refl;
+      }
+
 -- ---- a replica is heard: its medium is another one, and the server has its mark
 
 module _ (h : Shape) (d : Recovery) (new : ℕ) (t : Trail) (U : Underway h d new t) (i : ℕ) (l : i < h .replicas) (seven : h .replicas ≤ 7)
     (m : List ℕ) (long : length m ≡ mediumSize (h .places)) (size : length (t .state .media) ≡ h .replicas * mediumSize (h .places))
     (u : Trail) (e : u .state ≡ withMediumAndServer (h .places) (t .state) (d .server) i m (withReplica (serverOf d t) i true false (markOf (h .places) m))) where
-  abbrev heardServer : Server
-  heardServer = withReplica (serverOf d t) i true false (markOf (h .places) m)
+  same-records : u .state .records ≡ putServer (t .state .records) (d .server) (withReplica (serverOf d t) i true false (markOf (h .places) m))
+  same-records = ap (λ (x : State). x .records) e
 
-  heard-server : serverOf d u ≡ heardServer
-  heard-server =
-      ap (λ (x : State). serverAt (x .records) (d .server)) e
-      ∙ getD-set-same (t .state .records .servers) (d .server) heardServer noServer (omega (arith, U .server, U .servers))
+  heard-server : serverOf d u ≡ withReplica (serverOf d t) i true false (markOf (h .places) m)
+  heard-server = set-server h d new t U i true (markOf (h .places) m) u same-records
 
   pub heard-underway : Steady h (u .state) → Underway h d new u
-  heard-underway s =
-      record {
-        steady = s;
-        servers = ap (λ (x : State). length (x .records .servers)) e ∙ length-set (t .state .records .servers) (d .server) heardServer ∙ U .servers;
-        server = U .server;
-        phase = ap (λ (v : Server). v .phase) heard-server ∙ U .phase;
-        session = ap (λ (v : Server). v .session) heard-server ∙ U .session;
-        register = ap (λ (x : State). x .records .register .session) e ∙ U .register;
-        known = ap (λ (v : Server). length (v .known)) heard-server ∙ length-set (serverOf d t .known) i true ∙ U .known;
-        marks = ap (λ (v : Server). length (v .marks)) heard-server ∙ length-set (serverOf d t .marks) i (markOf (h .places) m) ∙ U .marks;
-        dropped = λ j. ap (λ (v : Server). getD (v .dropped) j false) heard-server
-            ∙ set-any (λ (b : Bool). b ≡ false) (serverOf d t .dropped) i j false false (U .dropped j) refl;
-      }
+  heard-underway = set-underway h d new t U i true (markOf (h .places) m) u same-records
 
   pub heard-other : (j : ℕ) → (j ≡ i → ⊥) → Same h d t u j
   heard-other j n =

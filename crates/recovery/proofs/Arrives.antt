@@ -43,7 +43,7 @@ use Rattle.recovery.proofs.Opening.{Odd, odd-replicas, opens, is-open}
 
 -- ---- where the calls of a recovery that isn't declined end
 
-prepares-length : (h : Shape) (d : Recovery) (t : Trail) (is : List ℕ) → length (prepares h d t is) ≡ length is
+pub prepares-length : (h : Shape) (d : Recovery) (t : Trail) (is : List ℕ) → length (prepares h d t is) ≡ length is
 unfolding prepares
 prepares-length h d t [] = refl
 prepares-length h d t (i ∷ is) = ap suc (prepares-length h d _ is)

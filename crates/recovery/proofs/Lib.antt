@@ -4,9 +4,11 @@ pub mod Underway
 pub mod Counts
 pub mod Own
 pub mod Staying
+pub mod Turns
 pub mod Listed
 pub mod Highest
 pub mod Preparing
 pub mod Copying
 pub mod Opening
 pub mod Arrives
+pub mod Bound

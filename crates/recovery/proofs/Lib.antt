@@ -12,3 +12,4 @@ pub mod Copying
 pub mod Opening
 pub mod Arrives
 pub mod Bound
+pub mod Refused

@@ -65,19 +65,19 @@ passed-mark : (N : ℕ) (recorded : ℕ) (m : List ℕ) → markDiffers N record
 unfolding markDiffers
 passed-mark N recorded m e = eqb-true (markOf N m) recorded (not-false _ e)
 
-ok-values : (r : Reply) → isOk r ≡ true → (values : List ℕ) × (r ≡ ok values)
+pub ok-values : (r : Reply) → isOk r ≡ true → (values : List ℕ) × (r ≡ ok values)
 ok-values (ok values) e = (values, refl)
 ok-values (no n values) e = absurd (false≢true e)
 ok-values silent e = absurd (false≢true e)
 
-answered-is : (f : Fate) → answered f ≡ true → f ≡ Answered
+pub answered-is : (f : Fate) → answered f ≡ true → f ≡ Answered
 answered-is Answered e = refl
 answered-is Lost e = absurd (false≢true e)
 answered-is AnswerLost e = absurd (false≢true e)
 answered-is (Cut w l) e = absurd (false≢true e)
 
 -- a condition that would be seen does not hold
-unseen : {f : Fate} {b : Bool} → f ≡ Answered → (answered f && b) ≡ false → b ≡ false
+pub unseen : {f : Fate} {b : Bool} → f ≡ Answered → (answered f && b) ≡ false → b ≡ false
 unseen {f} {b} e q = subst (λ (g : Fate). (answered g && b) ≡ false) e q
 
 module _ (h : Shape) (d : Recovery) (new : ℕ) (seven : h .replicas ≤ 7) (t : Trail) (U : Underway h d new t) (a b : ℕ) where

@@ -1,0 +1,6 @@
+// A recovery by a driver.
+pub mod fates;
+pub mod listed;
+pub mod marks;
+pub mod prepares;
+pub mod steps;

@@ -1,6 +1,6 @@
 -- What a running recovery gets and gives, in the definition of a recovery.
 -- Assumes nothing.
-use Prim.Native.Nat.{ℕ, _+_, _<_}
+use Prim.Native.Nat.{ℕ, _+_, _<_, _≤_}
 use mathlib.Core.List.{List}
 use lib.ListN.{length, getD}
 use Rattle.cluster.specs.declared.Outcome.{Outcome}
@@ -17,9 +17,10 @@ askedOf server listed fates given = record { server = server; listed = listed; f
 abbrev pub trailOf : Recovered → (media tables : List ℕ) → Trail
 trailOf g media tables = record { state = stateOf (g .records) media tables; reply = replyOf (g .answer); count = g .calls }
 
--- every listed number is below r
-pub record Named (r : ℕ) (listed : List ℕ) : Type 0 where
-  pub below : (k : ℕ) → k < length listed → getD listed k 0 < r
+-- a list of replicas that 4 and 29 let pass: few, and each with a place in a server's record
+pub record Named (listed : List ℕ) : Type 0 where
+  pub few : length listed ≤ 7
+  pub below : (k : ℕ) → k < length listed → getD listed k 0 < 7
 
 -- what it carries after a call with this outcome, behind so many others
 abbrev pub counted : Outcome → ℕ → Recovered

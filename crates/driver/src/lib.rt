@@ -1,4 +1,5 @@
 // A recovery by a driver.
+pub mod copies;
 pub mod fates;
 pub mod listed;
 pub mod marks;

@@ -24,7 +24,7 @@ fn higher(a: u64, b: u64) -> u64
 }
 
 pub fn highest_known(v: Server, listed: &[u64]) -> u64
-    requires { ⌜ Named 7 (now listed) ⌝ }
+    requires { ⌜ Named (now listed) ⌝ }
     ensures { λ m. ⌜ m ≡ highestKnown v (now (listed .entry)) ⌝ }
 {
     let mut best = 0;
@@ -46,7 +46,7 @@ fn is_at(v: Server, i: usize, m: u64) -> bool
 
 // In the order of the list; 0 if there is none.
 pub fn first_at(v: Server, m: u64, listed: &[u64]) -> u64
-    requires { ⌜ Named 7 (now listed) ⌝ }
+    requires { ⌜ Named (now listed) ⌝ }
     ensures { λ i. ⌜ i ≡ firstAt v m (now (listed .entry)) ⌝ }
 {
     let mut k = 0;

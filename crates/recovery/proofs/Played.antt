@@ -7,6 +7,7 @@ use Prim.Native.Nat.{ℕ, zero, suc, _+_, _-_, _*_, _≤_, _<_}
 use native.Mathlib.Numerals.{add-one}
 use native.Mathlib.Omega.{arith}
 use lib.Dec.{ltb}
+use borrow.Author.Tests.{lt-ltb, le-ltb}
 use lib.ListN.{length, drop, getD, length-append, drop-of-length-le}
 use lib.Seq.{drop-cons}
 use Rattle.cluster.specs.declared.Shape.{Shape}
@@ -21,14 +22,15 @@ over f t [] = t
 over f t (i ∷ is) = over f (f t i) is
 
 module _ {A : Type 0} (f : A → ℕ → A) where
-  -- a turn of the loop at k, and its end
-  pub over-next : (t : A) (l : List ℕ) (k : ℕ) → k < length l → over f t (drop k l) ≡ over f (f t (getD l k 0)) (drop (k + 1) l)
-  unfolding over
-  over-next t l k h = rw (add-one, drop-cons l k 0 h)
+  -- a loop over the list: z is what the walk over all of it comes to, t what is come to at k; a turn of the loop at k, and its end
+  module _ {z t : A} (l : List ℕ) (k : ℕ) (e : z ≡ over f t (drop k l)) where
+    pub over-turn : {t′ : A} → k < length l → t′ ≡ f t (getD l k 0) → z ≡ over f t′ (drop (k + 1) l)
+    unfolding over
+    over-turn h q = rw (add-one, q) (e ∙ rw (drop-cons l k 0 h))
 
-  pub over-end : (t : A) (l : List ℕ) (k : ℕ) → length l ≤ k → over f t (drop k l) ≡ t
-  unfolding over
-  over-end t l k h = rw (drop-of-length-le l h)
+    pub over-end : length l ≤ k → t ≡ z
+    unfolding over
+    over-end h = sym (e ∙ rw (drop-of-length-le l h))
 
   -- what each turn keeps, the walk keeps
   pub over-keeps : (P : A → Type 0) → ((t : A) (i : ℕ) → P t → P (f t i)) → (t : A) (l : List ℕ) → P t → P (over f t l)
@@ -73,37 +75,53 @@ module _ (h : Shape) (d : Recovery) where
     abbrev pub copied : Trail → Trail
     copied t = one h t (copying d t a b)
 
-    pub copies-none : (t : Trail) (left : ℕ) → left ≤ 0 → played h t (copies h d a m b left t) ≡ t
-    unfolding played copies
-    copies-none t zero l = refl
-    copies-none t (suc left) l = absurd (omega arith)
+    abbrev pub copiedUp : ℕ → Trail → Trail
+    copiedUp turns t = played h t (copies h d a m b turns t)
 
-    pub copies-done : (t : Trail) (left : ℕ) → ltb (markAt (serverOf d t) b) m ≡ false → played h t (copies h d a m b left t) ≡ t
+    none : (t : Trail) (left : ℕ) → left ≤ 0 → copiedUp left t ≡ t
     unfolding played copies
-    copies-done t zero e = refl
-    copies-done t (suc left) e = rw e
+    none t zero l = refl
+    none t (suc left) l = absurd (omega arith)
 
-    pub copies-stop :
-        (t : Trail) (left : ℕ)
-        → 0 < left
-        → ltb (markAt (serverOf d t) b) m ≡ true
-        → isOk (copied t .reply) ≡ false
-        → played h t (copies h d a m b left t) ≡ copied t
+    done : (t : Trail) (left : ℕ) → ltb (markAt (serverOf d t) b) m ≡ false → copiedUp left t ≡ t
     unfolding played copies
-    copies-stop t zero l e o = absurd (omega arith)
-    copies-stop t (suc left) l e o = rw (e, o)
+    done t zero e = refl
+    done t (suc left) e = rw e
 
-    pub copies-on :
-        (t : Trail) (left : ℕ)
-        → 0 < left
-        → ltb (markAt (serverOf d t) b) m ≡ true
-        → isOk (copied t .reply) ≡ true
-        → played h t (copies h d a m b left t) ≡ played h (copied t) (copies h d a m b (left - 1) (copied t))
+    stop : (t : Trail) (left : ℕ) → 0 < left → ltb (markAt (serverOf d t) b) m ≡ true → isOk (copied t .reply) ≡ false → copiedUp left t ≡ copied t
     unfolding played copies
-    copies-on t zero l e o = absurd (omega arith)
-    copies-on t (suc left) l e o =
+    stop t zero l e o = absurd (omega arith)
+    stop t (suc left) l e o = rw (e, o)
+
+    goes : (t : Trail) (left : ℕ) → 0 < left → ltb (markAt (serverOf d t) b) m ≡ true → isOk (copied t .reply) ≡ true → copiedUp left t ≡ copiedUp (left - 1) (copied t)
+    unfolding played copies
+    goes t zero l e o = absurd (omega arith)
+    goes t (suc left) l e o =
         let q : suc left - 1 ≡ left = omega arith in
         rw (e, o, q)
+
+    -- the loop: z is what all turns come to, t what is come to with so many left
+    module _ {z : Trail} (t : Trail) (left : ℕ) (e : z ≡ copiedUp left t) where
+      pub copies-none : left ≤ 0 → t ≡ z
+      copies-none l = sym (e ∙ none t left l)
+
+      -- n is the mark that b has, t′ what a copy leaves, x whether it was ok
+      module _ {n : ℕ} (q : n ≡ markAt (serverOf d t) b) where
+        pub copies-done : m ≤ n → t ≡ z
+        copies-done l = sym (e ∙ done t left (ap (λ (k : ℕ). ltb k m) (sym q) ∙ le-ltb n m l))
+
+        module _ (l : 0 < left) (w : n < m) {t′ : Trail} (made : t′ ≡ copied t) {x : Bool} (ok : x ≡ isOk (t′ .reply)) where
+          below : ltb (markAt (serverOf d t) b) m ≡ true
+          below = ap (λ (k : ℕ). ltb k m) (sym q) ∙ lt-ltb n m w
+
+          answer : x ≡ isOk (copied t .reply)
+          answer = ok ∙ ap (λ (u : Trail). isOk (u .reply)) made
+
+          pub copies-stop : x ≡ false → t′ ≡ z
+          copies-stop o = made ∙ sym (e ∙ stop t left l below (sym answer ∙ o))
+
+          pub copies-on : x ≡ true → z ≡ copiedUp (left - 1) t′
+          copies-on o = e ∙ goes t left l below (sym answer ∙ o) ∙ ap (copiedUp (left - 1)) (sym made)
 
     copies-length : (turns : ℕ) (t : Trail) → length (copies h d a m b turns t) ≤ turns
     unfolding copies

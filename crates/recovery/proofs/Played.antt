@@ -14,6 +14,7 @@ use Rattle.cluster.specs.declared.Shape.{Shape}
 use Rattle.cluster.specs.State.{activeAt, markAt}
 use Rattle.cluster.specs.Refusals.{Input}
 use Rattle.recovery.specs.Recovery.{Recovery, Trail, one, played, taking, preparing, copying, opening, isOk, serverOf, prepares, copies, lacks, copiesTo, allCopies, catchingUp, afterTake, fromTake}
+use Rattle.recovery.proofs.Counts.{played-count, played-join}
 
 -- ---- a walk over a list, one element after another
 
@@ -37,18 +38,6 @@ module _ {A : Type 0} (f : A → ℕ → A) where
   unfolding over
   over-keeps P s t [] p = p
   over-keeps P s t (i ∷ is) p = over-keeps P s (f t i) is (s t i p)
-
--- ---- lists of calls
-
-pub played-append : (h : Shape) (t : Trail) (ps qs : List Input) → played h t (ps ++ qs) ≡ played h (played h t ps) qs
-unfolding played
-played-append h t [] qs = refl
-played-append h t (p ∷ ps) qs = played-append h (one h t p) ps qs
-
-pub played-count : (h : Shape) (t : Trail) (ps : List Input) → played h t ps .count ≡ t .count + length ps
-unfolding played
-played-count h t [] = omega arith
-played-count h t (p ∷ ps) = omega (arith, played-count h (one h t p) ps)
 
 module _ (h : Shape) (d : Recovery) where
   -- ---- the prepares
@@ -155,7 +144,7 @@ module _ (h : Shape) (d : Recovery) where
   unfolding played allCopies over
   allCopies-over a m t [] = refl
   allCopies-over a m t (b ∷ bs) =
-      played-append h t (copiesTo h d a m b t) (allCopies h d a m (caughtUp a m t b) bs) ∙ allCopies-over a m (caughtUp a m t b) bs
+      played-join h t (copiesTo h d a m b t) (allCopies h d a m (caughtUp a m t b) bs) ∙ allCopies-over a m (caughtUp a m t b) bs
 
   -- ---- the whole
 
@@ -169,7 +158,7 @@ module _ (h : Shape) (d : Recovery) where
       let t′ = played h t ps in
       let cs = catchingUp h d t′ in
       let os = opening d (played h t′ cs) ∷ [] in
-      played-append h t ps (cs ++ os) ∙ played-append h t′ cs os
+      played-join h t ps (cs ++ os) ∙ played-join h t′ cs os
 
   abbrev pub taken : Trail → Trail
   taken t = one h t (taking d t)

@@ -1,0 +1,258 @@
+-- That a recovery arrives: `arrives : Arrives`. The statement is specs/Arrival.antt.
+-- Why: the take is answered; every listed replica that has a valid slot and no higher promise is known after its prepare (Preparing), with a mark that its medium
+-- has and no valid place above it; each copy then brings one record (Copying); so all known ones come to stand at the highest mark and none above it, and those
+-- that are absent are fewer than Q: the mark is decided, and Q are clean (Opening).
+-- Assumes nothing.
+use mathlib.Core.Path.{_≡_, refl, sym, ap, _∙_, subst, subst⁻¹}
+use mathlib.Core.Bool.{Bool, true, false, not, cond, _&&_, _||_, false≢true}
+use mathlib.Core.Logic.{_⊎_, inl, inr, ⊎-elim}
+use mathlib.Core.List.{List, [], _∷_, _++_}
+use Prim.Native.Nat.{ℕ, zero, suc, _+_, _*_, _^_, _≤_, _<_}
+use native.Mathlib.Omega.{arith}
+use lib.ListN.{length}
+use lib.Dec.{eqb}
+use borrow.Author.Tests.{eqb-false, not-true, not-false}
+use Rattle.base.specs.Below.{bit, count}
+use Rattle.base.proofs.Below.{count-mono, count-some}
+use Rattle.base.proofs.Same.{count-same}
+use Rattle.base.proofs.Tests.{both, neither}
+use Rattle.octets.specs.Octets.{Bytes}
+use Rattle.octets.proofs.Reading.{bytes-part}
+use Rattle.fate.specs.declared.Fate.the-variants.{Answered}
+use Rattle.storage.specs.Sizes.{mediumSize}
+use Rattle.storage.specs.Log.{Sound}
+use Rattle.storage.specs.Operations.{mediumAt}
+use Rattle.quorum.specs.Vote.{quorum}
+use Rattle.cluster.specs.declared.Shape.{Shape}
+use Rattle.cluster.specs.State.{State, markAt, activeAt, votesAt}
+use Rattle.cluster.specs.Replies.{ok}
+use Rattle.cluster.specs.Refusals.{Input, noSlot, promiseAbove, sessionAtTop, refusesPrepare, rowsOf, pass, firstOf}
+use Rattle.cluster.proofs.Rows.{passed}
+use Rattle.cluster.proofs.AsStored.{media-size}
+use Rattle.recovery.specs.Recovery.{Recovery, Trail, fateAt, one, played, taking, opening, isOk, serverOf, prepares, highestKnown, firstAt, catchingUp, afterTake, fromTake, contains, repeats, namesNone, unlisted, recoveryRows, begun, callsOf, recovered}
+use Rattle.recovery.specs.Arrival.{Typed, ready, howMany, taken, prepared, highestMark, lacking, Met, Arrived, Arrives}
+use Rattle.recovery.proofs.Counts.{played-count, played-join, played-more}
+use Rattle.recovery.proofs.Steady.{Steady, medium-size}
+use Rattle.recovery.proofs.Own.{Admitted, own, take-rows}
+use Rattle.recovery.proofs.Listed.{listed-below}
+use Rattle.recovery.proofs.Highest.{highest-ge, Has, source-has, many-listed}
+use Rattle.recovery.proofs.Underway.{Underway, Good, Same, taken-underway, taken-none, taken-media, taken-reply}
+use Rattle.recovery.proofs.Preparing as preparing
+use Rattle.recovery.proofs.Copying as copying
+use Rattle.recovery.proofs.Opening.{Odd, odd-replicas, opens, is-open}
+
+-- ---- where the calls of a recovery that isn't declined end
+
+prepares-length : (h : Shape) (d : Recovery) (t : Trail) (is : List ℕ) → length (prepares h d t is) ≡ length is
+unfolding prepares
+prepares-length h d t [] = refl
+prepares-length h d t (i ∷ is) = ap suc (prepares-length h d _ is)
+
+module _ (h : Shape) (x : State) (d : Recovery) (admitted : firstOf (recoveryRows h x d) ≡ pass) where
+  -- the calls behind the take
+  abbrev rest : List Input
+  rest = cond (isOk (taken h x d .reply)) (afterTake h d (taken h x d)) []
+
+  begins : recovered h x d ≡ played h (taken h x d) rest
+  unfolding recovered callsOf fromTake played
+  begins = rw admitted
+
+  first-call : 0 < recovered h x d .count
+  unfolding begun
+  first-call = subst⁻¹ (λ (u : Trail). 0 < u .count) begins (omega (arith, played-more h (taken h x d) rest))
+
+  -- where the take is ok
+  abbrev caught : Trail
+  caught = played h (prepared h x d) (catchingUp h d (prepared h x d))
+
+  ends : isOk (taken h x d .reply) ≡ true → recovered h x d ≡ one h caught (opening d caught)
+  unfolding afterTake played
+  ends e =
+      let ps = prepares h d (taken h x d) (d .listed) in
+      let cs = catchingUp h d (prepared h x d) in
+      let q : rest ≡ ps ++ (cs ++ (opening d caught ∷ [])) = rw e in
+      begins ∙ ap (played h (taken h x d)) q ∙ played-join h (taken h x d) ps (cs ++ (opening d caught ∷ [])) ∙ played-join h (prepared h x d) cs (opening d caught ∷ [])
+
+-- ---- the theorem
+
+module _ (h : Shape) (x : State) (d : Recovery) (T : Typed x) (M : Met h x d) where
+  abbrev t₀ : Trail
+  t₀ = begun h x d
+
+  abbrev t₁ : Trail
+  t₁ = taken h x d
+
+  abbrev t₂ : Trail
+  t₂ = prepared h x d
+
+  abbrev new : ℕ
+  new = x .records .register .session + 1
+
+  abbrev N : ℕ
+  N = h .places
+
+  A : Admitted h x d
+  A = own h x d (M .admitted)
+
+  o : Odd (h .replicas)
+  o = odd-replicas h _ _ (A .steady .inside)
+
+  size : length (x .media) ≡ h .replicas * mediumSize N
+  size = media-size h (length (x .media)) (length (x .tables)) (A .steady .inside)
+
+  top : new < 2 ^ 64
+  top = omega (arith, T .session, eqb-false new (2 ^ 64) (M .below-top))
+
+  -- ---- the take
+
+  takes : fateAt d 0 ≡ Answered
+  takes = M .answered 0 (first-call h x d (M .admitted))
+
+  take-passes : firstOf (rowsOf h x (taking d t₀)) ≡ pass
+  unfolding begun firstOf
+  take-passes = take-rows h d t₀ A ∙ rw (takes, M .below-top)
+
+  underway₁ : Underway h d new t₁
+  unfolding begun
+  underway₁ = taken-underway h d t₀ (A .steady) (T .servers) take-passes takes (M .below-top) (A .server)
+
+  unknown₁ : (i : ℕ) → activeAt (serverOf d t₁) i ≡ false
+  unfolding begun
+  unknown₁ = taken-none h d t₀ (A .steady) (T .servers) take-passes takes (M .below-top) (A .server)
+
+  media₁ : t₁ .state .media ≡ x .media
+  unfolding begun
+  media₁ = taken-media h d t₀ (A .steady) (T .servers) take-passes takes (M .below-top)
+
+  ok₁ : isOk (t₁ .reply) ≡ true
+  unfolding begun
+  ok₁ = ap isOk (taken-reply h d t₀ (A .steady) (T .servers) take-passes takes (M .below-top))
+
+  -- ---- so it ends with its open, and all fates before are answered
+
+  abbrev t₃ : Trail
+  t₃ = caught h x d (M .admitted)
+
+  last : recovered h x d ≡ one h t₃ (opening d t₃)
+  last = ends h x d (M .admitted) ok₁
+
+  answers : (k : ℕ) → k < one h t₃ (opening d t₃) .count → fateAt d k ≡ Answered
+  answers = subst (λ (u : Trail). (k : ℕ) → k < u .count → fateAt d k ≡ Answered) last (M .answered)
+
+  counts₃ : t₂ .count ≤ t₃ .count
+  counts₃ = played-more h t₂ (catchingUp h d t₂)
+
+  -- ---- the prepares
+
+  waiting : (i : ℕ) → contains (d .listed) i ≡ true → preparing.Waiting h d t₁ i
+  waiting i e =
+      let same : mediumAt N i (t₁ .state .media) ≡ mediumAt N i (x .media) = ap (mediumAt N i) media₁ in
+      record {
+        sound = subst⁻¹ (Sound N) same (record { size = medium-size h i (x .media) (listed-below (h .replicas) i (d .listed) (A .below) e) size; clean = M .clean i e });
+        bytes = subst⁻¹ Bytes same (bytes-part (i * mediumSize N) (mediumSize N) (x .media) (T .bytes));
+        unknown = unknown₁ i;
+      }
+
+  P : preparing.All h d new (o .most) top t₁ (d .listed)
+  P = preparing.prepare-all h d new (o .most) top (d .listed) t₁ underway₁ (A .once) (A .below) waiting (λ k l. answers k (omega (arith, l, counts₃)))
+
+  -- whoever is known was listed, and is good
+  known-listed : (i : ℕ) → activeAt (serverOf d t₂) i ≡ true → contains (d .listed) i ≡ true
+  known-listed i e = go (contains (d .listed) i) refl
+    where
+      go : (b : Bool) → contains (d .listed) i ≡ b → b ≡ true
+      go true q = refl
+      go false q = absurd (false≢true (sym (P .others i q .active ∙ unknown₁ i) ∙ e))
+
+  known-good : (i : ℕ) → activeAt (serverOf d t₂) i ≡ true → Good h d new t₂ i
+  known-good i e = go (refusesPrepare new (mediumAt N i (t₁ .state .media))) refl
+    where
+      go : (b : Bool) → refusesPrepare new (mediumAt N i (t₁ .state .media)) ≡ b → Good h d new t₂ i
+      go true q = absurd (false≢true (sym (P .tried i (known-listed i e) .refused q) ∙ e))
+      go false q = P .tried i (known-listed i e) .good q
+
+  -- who is ready is known afterwards, so at least Q are
+  ready-known : (i : ℕ) → contains (d .listed) i ≡ true → ready h x i ≡ true → votesAt (serverOf d t₂) i ≡ true
+  ready-known i e r =
+      let m = mediumAt N i (x .media) in
+      let b = both (not (noSlot m)) (not (promiseAbove new m)) r in
+      let passes : refusesPrepare new m ≡ false = rw (not-true (noSlot m) (b .0), not-true (promiseAbove new m) (b .1)) in
+      P .tried i e .good (ap (λ (z : List ℕ). refusesPrepare new (mediumAt N i z)) media₁ ∙ passes) .active
+
+  many : quorum (h .replicas) ≤ count (votesAt (serverOf d t₂)) (h .replicas)
+  many =
+      let v = serverOf d t₂ in
+      let a = many-listed (ready h x) (votesAt v) (h .replicas) (d .listed) (A .once) (A .below) ready-known in
+      let b = count-mono (λ i. votesAt v i && contains (d .listed) i) (votesAt v) (h .replicas) (λ i l. less (votesAt v i) (contains (d .listed) i)) in
+      omega (arith, M .enough, a, b)
+    where
+      less : (b c : Bool) → bit (b && c) ≤ bit b
+      less true true = omega arith
+      less true false = omega arith
+      less false c = omega arith
+
+  -- ---- the copies
+
+  abbrev mark : ℕ
+  mark = highestMark h x d
+
+  -- one is known, so the first of those at the highest mark is a source
+  abbrev a : ℕ
+  a = firstAt (serverOf d t₂) mark (d .listed)
+
+  has-mark : Has (serverOf d t₂) (d .listed) mark a
+  has-mark =
+      let some = count-some (votesAt (serverOf d t₂)) (h .replicas) (omega (arith, many, o .least)) in
+      source-has (serverOf d t₂) (d .listed) (some .0) (known-listed (some .0) (some .2)) (some .2)
+
+  below : a < h .replicas
+  below = listed-below (h .replicas) a (d .listed) (A .below) (has-mark .listed)
+
+  source : copying.Source h d new (o .most) a below mark t₂
+  source = (known-good a (has-mark .active), has-mark .mark-is)
+
+  before : (b : ℕ) → contains (d .listed) b ≡ true → copying.Before h d new (o .most) a below mark t₂ b
+  before b e = go (activeAt (serverOf d t₂) b) refl
+    where
+      go : (k : Bool) → activeAt (serverOf d t₂) b ≡ k → copying.Before h d new (o .most) a below mark t₂ b
+      go true q = inl (known-good b q, highest-ge (serverOf d t₂) (d .listed) b e q)
+      go false q = inr q
+
+  C : copying.All h d new (o .most) a below mark t₂ (d .listed)
+  C = copying.copy-all h d new (o .most) a below mark (d .listed) t₂ (A .once) (A .below) (P .underway) source before (λ k l. answers k (omega (arith, l)))
+
+  -- ---- the open
+
+  all-there : (i : ℕ) → i < h .replicas → activeAt (serverOf d t₃) i ≡ true → markAt (serverOf d t₃) i ≡ mark
+  all-there i l e =
+      ⊎-elim (λ (g, q). q) (λ q. absurd (false≢true (sym q ∙ e))) (C .there i (known-listed i (sym (C .known i) ∙ e)))
+
+  still-many : quorum (h .replicas) ≤ count (votesAt (serverOf d t₃)) (h .replicas)
+  still-many =
+      let same = count-same (h .replicas) (votesAt (serverOf d t₃)) (votesAt (serverOf d t₂)) (λ i l. C .known i) in
+      omega (arith, many, same)
+
+  opened : fateAt d (t₃ .count) ≡ Answered
+  opened = answers (t₃ .count) (omega arith)
+
+  made : t₃ .count ≡ 1 + length (d .listed) + lacking (serverOf d t₂) mark (d .listed)
+  unfolding begun
+  made =
+      omega (
+        arith,
+        played-count h t₁ (prepares h d t₁ (d .listed)),
+        prepares-length h d t₁ (d .listed),
+        played-count h t₂ (catchingUp h d t₂),
+        C .made,
+      )
+
+  pub has-arrived : Arrived h x d
+  has-arrived =
+      record {
+        opens = ap (λ (u : Trail). serverOf d u .phase) last ∙ is-open h d new t₃ (C .underway) mark o all-there still-many opened;
+        reply = ap (λ (u : Trail). u .reply) last ∙ opens h d new t₃ (C .underway) mark o all-there still-many opened;
+        count = ap (λ (u : Trail). u .count) last ∙ omega (arith, made);
+      }
+
+pub arrives : Arrives
+arrives h x d T M = has-arrived h x d T M

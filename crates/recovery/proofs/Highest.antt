@@ -1,0 +1,127 @@
+-- The highest mark of a list, who has it, and how many of a list there are.
+-- Assumes nothing.
+use mathlib.Core.Path.{_≡_, refl, sym, ap, _∙_, subst}
+use mathlib.Core.Bool.{Bool, true, false, cond, _&&_, _||_, false≢true}
+use mathlib.Core.Logic.{_⊎_, inl, inr, ⊎-elim}
+use mathlib.Core.List.{List, [], _∷_}
+use Prim.Native.Nat.{ℕ, zero, suc, _+_, _≤_, _<_, max}
+use native.Mathlib.Omega.{arith}
+use native.Mathlib.Decide.{ℕ-discrete}
+use lib.Dec.{eqb}
+use borrow.Author.Tests.{eq-eqb, eqb-true, ne-eqb}
+use Rattle.base.specs.Below.{bit, count}
+use Rattle.base.proofs.Below.{count-mono, bit-le}
+use Rattle.base.proofs.Tests.{both, lt-or-le}
+use Rattle.cluster.specs.declared.Server.{Server}
+use Rattle.cluster.specs.State.{markAt, activeAt}
+use Rattle.recovery.specs.Recovery.{contains, repeats, unlisted, highestKnown, firstAt}
+use Rattle.recovery.specs.Arrival.{howMany}
+use Rattle.recovery.proofs.Listed.{first-unique, first-below, first-in, later-in, in-either}
+
+-- ---- the highest mark
+
+module _ (v : Server) where
+  pub highest-ge : (is : List ℕ) (i : ℕ) → contains is i ≡ true → activeAt v i ≡ true → markAt v i ≤ highestKnown v is
+  unfolding highestKnown contains
+  highest-ge [] i e k = absurd (false≢true e)
+  highest-ge (j ∷ is) i e k = ⊎-elim first (λ q. later (highest-ge is i q k)) (in-either j i is e)
+    where
+      first : i ≡ j → markAt v i ≤ max (cond (activeAt v j) (markAt v j) 0) (highestKnown v is)
+      first q = let a : activeAt v j ≡ true = rw (sym q) k in rw (a, q) (omega arith)
+
+      later : markAt v i ≤ highestKnown v is → markAt v i ≤ max (cond (activeAt v j) (markAt v j) 0) (highestKnown v is)
+      later q = omega (arith, q)
+
+  -- one of a list that is known and has this mark
+  pub record Has (is : List ℕ) (mark i : ℕ) : Type 0 where
+    pub listed : contains is i ≡ true
+    pub active : activeAt v i ≡ true
+    pub mark-is : markAt v i ≡ mark
+
+  more : (j : ℕ) (is : List ℕ) (mark i : ℕ) → Has is mark i → Has (j ∷ is) mark i
+  more j is mark i g = record { listed = later-in j i is (g .listed); active = g .active; mark-is = g .mark-is }
+
+  -- where one is known, one of them has the highest mark
+  attained : (is : List ℕ) → ((i : ℕ) × Has is (highestKnown v is) i) ⊎ ((highestKnown v is ≡ 0) × ((i : ℕ) → contains is i ≡ true → activeAt v i ≡ false))
+  unfolding highestKnown contains
+  attained [] = inr (refl, λ i e. absurd (false≢true e))
+  attained (j ∷ is) = go (activeAt v j) refl (attained is)
+    where
+      go : (b : Bool) → activeAt v j ≡ b
+          → ((i : ℕ) × Has is (highestKnown v is) i) ⊎ ((highestKnown v is ≡ 0) × ((i : ℕ) → contains is i ≡ true → activeAt v i ≡ false))
+          → ((i : ℕ) × Has (j ∷ is) (max (cond (activeAt v j) (markAt v j) 0) (highestKnown v is)) i)
+          ⊎ ((max (cond (activeAt v j) (markAt v j) 0) (highestKnown v is) ≡ 0) × ((i : ℕ) → contains (j ∷ is) i ≡ true → activeAt v i ≡ false))
+      go true e (inr (z, n)) = inl (j, record { listed = first-in j is; active = e; mark-is = rw e (omega (arith, z)) })
+      go true e (inl (i, g)) = ⊎-elim
+          (λ (q : markAt v j < markAt v i). inl (i, record { listed = later-in j i is (g .listed); active = g .active; mark-is = rw e (omega (arith, q, g .mark-is)) }))
+          (λ (q : markAt v i ≤ markAt v j). inl (j, record { listed = first-in j is; active = e; mark-is = rw e (omega (arith, q, g .mark-is)) }))
+          (lt-or-le (markAt v j) (markAt v i))
+      go false e (inl (i, g)) = inl (i, record { listed = later-in j i is (g .listed); active = g .active; mark-is = rw e (omega (arith, g .mark-is)) })
+      go false e (inr (z, n)) = inr (rw e (omega (arith, z)), λ i q. ⊎-elim (λ p. rw p e) (n i) (in-either j i is q))
+
+  -- the first that has a mark, where one has
+  first-found : (is : List ℕ) (mark i : ℕ) → Has is mark i → Has is mark (firstAt v mark is)
+  unfolding firstAt contains
+  first-found [] mark i g = absurd (false≢true (g .listed))
+  first-found (j ∷ is) mark i g =
+      go (λ q. first-found is mark i (record { listed = q; active = g .active; mark-is = g .mark-is })) (activeAt v j && eqb (markAt v j) mark) refl
+    where
+      later : (contains is i ≡ true → Has is mark (firstAt v mark is)) → (activeAt v j && eqb (markAt v j) mark) ≡ false → Has is mark (firstAt v mark is)
+      later r n = ⊎-elim
+          (λ q.
+          let here : (activeAt v i && eqb (markAt v i) mark) ≡ true = rw (g .active, eq-eqb (markAt v i) mark (g .mark-is)) in
+          absurd (false≢true (sym n ∙ subst (λ (k : ℕ). (activeAt v k && eqb (markAt v k) mark) ≡ true) q here)))
+          r
+          (in-either j i is (g .listed))
+
+      go : (contains is i ≡ true → Has is mark (firstAt v mark is)) → (b : Bool) → (activeAt v j && eqb (markAt v j) mark) ≡ b
+          → Has (j ∷ is) mark (cond b j (firstAt v mark is))
+      go r true e = let k = both (activeAt v j) (eqb (markAt v j) mark) e in record { listed = first-in j is; active = k .0; mark-is = eqb-true (markAt v j) mark (k .1) }
+      go r false e = more j is mark (firstAt v mark is) (later r e)
+
+  -- so the source of the copies has the highest mark
+  pub source-has : (is : List ℕ) (i : ℕ) → contains is i ≡ true → activeAt v i ≡ true → Has is (highestKnown v is) (firstAt v (highestKnown v is) is)
+  source-has is i e k =
+      ⊎-elim
+      (λ (j, g). first-found is (highestKnown v is) j g)
+      (λ (z, n). absurd (false≢true (sym (n i e) ∙ k)))
+      (attained is)
+
+-- ---- how many
+
+-- of the numbers below n one more is counted, if one more is
+count-more : (p q : ℕ → Bool) (n i : ℕ) → i < n → p i ≡ false → q i ≡ true → ((j : ℕ) → bit (p j) ≤ bit (q j)) → suc (count p n) ≤ count q n
+unfolding count
+count-more p q zero i l a b f = absurd (omega arith)
+count-more p q (suc n) i l a b f = go (λ k. count-more p q n i k a b f) (ℕ-discrete i n)
+  where
+    go : (i < n → suc (count p n) ≤ count q n) → Dec (i ≡ n) → suc (count p n + bit (p n)) ≤ count q n + bit (q n)
+    go r (yes e) =
+        let pn : p n ≡ false = rw (sym e) a in
+        let qn : q n ≡ true = rw (sym e) b in
+        rw (pn, qn) (omega (arith, count-mono p q n (λ j k. f j)))
+    go r (no e) = omega (arith, r (omega (arith, e)), f n)
+
+-- those of a list without repeats, all below r, are among those that are counted below r
+pub many-listed : (p q : ℕ → Bool) (r : ℕ) (is : List ℕ) → repeats is ≡ false → unlisted r is ≡ false
+    → ((i : ℕ) → contains is i ≡ true → p i ≡ true → q i ≡ true)
+    → howMany p is ≤ count (λ i. q i && contains is i) r
+unfolding howMany
+many-listed p q r [] once below f = omega arith
+many-listed p q r (i ∷ is) once below f =
+    go (many-listed p q r is (first-unique i is once .1) (first-below r i is below .1) (λ j e k. f j (later-in i j is e) k)) (p i) refl
+  where
+    wider : (j : ℕ) → bit (q j && contains is j) ≤ bit (q j && contains (i ∷ is) j)
+    wider j = at (q j) (contains is j) refl
+      where
+        at : (b c : Bool) → contains is j ≡ c → bit (b && c) ≤ bit (b && contains (i ∷ is) j)
+        at false c e = omega arith
+        at true true e = rw (later-in i j is e) (omega arith)
+        at true false e = omega arith
+
+    go : howMany p is ≤ count (λ j. q j && contains is j) r → (b : Bool) → p i ≡ b → bit (p i) + howMany p is ≤ count (λ j. q j && contains (i ∷ is) j) r
+    go rest false e = rw e (omega (arith, rest, count-mono (λ j. q j && contains is j) (λ j. q j && contains (i ∷ is) j) r (λ j l. wider j)))
+    go rest true e =
+        let here : (q i && contains (i ∷ is) i) ≡ true = rw (f i (first-in i is) e, first-in i is) in
+        let not-yet : (q i && contains is i) ≡ false = rw (f i (first-in i is) e, first-unique i is once .0) in
+        rw e (omega (arith, rest, count-more (λ j. q j && contains is j) (λ j. q j && contains (i ∷ is) j) r i (first-below r i is below .0) not-yet here wider))

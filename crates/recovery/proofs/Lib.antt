@@ -2,11 +2,13 @@
 pub mod Steady
 pub mod Underway
 pub mod Counts
+pub mod Played
 pub mod Own
 pub mod Staying
 pub mod Turns
 pub mod Listed
 pub mod Highest
+pub mod Distinct
 pub mod Preparing
 pub mod Copying
 pub mod Opening

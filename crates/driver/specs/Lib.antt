@@ -1,0 +1,2 @@
+-- What a running recovery gets and gives.
+pub mod Asked

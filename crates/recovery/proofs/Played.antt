@@ -1,0 +1,172 @@
+-- Calls played one after another: what is left after some of them, for a loop over the listed replicas and for one over the copies of a replica.
+-- Assumes nothing.
+use mathlib.Core.Path.{_≡_, refl, sym, ap, _∙_}
+use mathlib.Core.Bool.{Bool, true, false, cond}
+use mathlib.Core.List.{List, [], _∷_, _++_}
+use Prim.Native.Nat.{ℕ, zero, suc, _+_, _-_, _*_, _≤_, _<_}
+use native.Mathlib.Numerals.{add-one}
+use native.Mathlib.Omega.{arith}
+use lib.Dec.{ltb}
+use borrow.Author.Tests.{lt-ltb, le-ltb}
+use lib.ListN.{length, drop, getD, length-append, drop-of-length-le}
+use lib.Seq.{drop-cons}
+use Rattle.cluster.specs.declared.Shape.{Shape}
+use Rattle.cluster.specs.State.{activeAt, markAt}
+use Rattle.cluster.specs.Refusals.{Input}
+use Rattle.recovery.specs.Recovery.{Recovery, Trail, one, played, taking, preparing, copying, opening, isOk, serverOf, prepares, copies, lacks, copiesTo, allCopies, catchingUp, afterTake, fromTake}
+use Rattle.recovery.proofs.Counts.{played-count, played-join}
+
+-- ---- a walk over a list, one element after another
+
+unfoldable pub over : {A : Type 0} → (A → ℕ → A) → A → List ℕ → A
+over f t [] = t
+over f t (i ∷ is) = over f (f t i) is
+
+module _ {A : Type 0} (f : A → ℕ → A) where
+  -- a loop over the list: z is what the walk over all of it comes to, t what is come to at k; a turn of the loop at k, and its end
+  module _ {z t : A} (l : List ℕ) (k : ℕ) (e : z ≡ over f t (drop k l)) where
+    pub over-turn : {t′ : A} → k < length l → t′ ≡ f t (getD l k 0) → z ≡ over f t′ (drop (k + 1) l)
+    unfolding over
+    over-turn h q = rw (add-one, q) (e ∙ rw (drop-cons l k 0 h))
+
+    pub over-end : length l ≤ k → t ≡ z
+    unfolding over
+    over-end h = sym (e ∙ rw (drop-of-length-le l h))
+
+  -- what each turn keeps, the walk keeps
+  pub over-keeps : (P : A → Type 0) → ((t : A) (i : ℕ) → P t → P (f t i)) → (t : A) (l : List ℕ) → P t → P (over f t l)
+  unfolding over
+  over-keeps P s t [] p = p
+  over-keeps P s t (i ∷ is) p = over-keeps P s (f t i) is (s t i p)
+
+module _ (h : Shape) (d : Recovery) where
+  -- ---- the prepares
+
+  abbrev pub prepared : Trail → ℕ → Trail
+  prepared t i = one h t (preparing d t i)
+
+  pub prepares-over : (t : Trail) (l : List ℕ) → played h t (prepares h d t l) ≡ over prepared t l
+  unfolding played prepares over
+  prepares-over t [] = refl
+  prepares-over t (i ∷ is) = prepares-over (prepared t i) is
+
+  prepares-length : (t : Trail) (l : List ℕ) → length (prepares h d t l) ≡ length l
+  unfolding prepares
+  prepares-length t [] = refl
+  prepares-length t (i ∷ is) = ap suc (prepares-length (prepared t i) is)
+
+  pub prepares-count : (t : Trail) (l : List ℕ) → played h t (prepares h d t l) .count ≡ t .count + length l
+  prepares-count t l = omega (arith, played-count h t (prepares h d t l), prepares-length t l)
+
+  -- ---- the copies of one replica, of which so many turns are left
+
+  module _ (a m b : ℕ) where
+    abbrev pub copied : Trail → Trail
+    copied t = one h t (copying d t a b)
+
+    abbrev pub copiedUp : ℕ → Trail → Trail
+    copiedUp turns t = played h t (copies h d a m b turns t)
+
+    none : (t : Trail) (left : ℕ) → left ≤ 0 → copiedUp left t ≡ t
+    unfolding played copies
+    none t zero l = refl
+    none t (suc left) l = absurd (omega arith)
+
+    done : (t : Trail) (left : ℕ) → ltb (markAt (serverOf d t) b) m ≡ false → copiedUp left t ≡ t
+    unfolding played copies
+    done t zero e = refl
+    done t (suc left) e = rw e
+
+    stop : (t : Trail) (left : ℕ) → 0 < left → ltb (markAt (serverOf d t) b) m ≡ true → isOk (copied t .reply) ≡ false → copiedUp left t ≡ copied t
+    unfolding played copies
+    stop t zero l e o = absurd (omega arith)
+    stop t (suc left) l e o = rw (e, o)
+
+    goes : (t : Trail) (left : ℕ) → 0 < left → ltb (markAt (serverOf d t) b) m ≡ true → isOk (copied t .reply) ≡ true → copiedUp left t ≡ copiedUp (left - 1) (copied t)
+    unfolding played copies
+    goes t zero l e o = absurd (omega arith)
+    goes t (suc left) l e o =
+        let q : suc left - 1 ≡ left = omega arith in
+        rw (e, o, q)
+
+    -- the loop: z is what all turns come to, t what is come to with so many left
+    module _ {z : Trail} (t : Trail) (left : ℕ) (e : z ≡ copiedUp left t) where
+      pub copies-none : left ≤ 0 → t ≡ z
+      copies-none l = sym (e ∙ none t left l)
+
+      -- n is the mark that b has, t′ what a copy leaves, x whether it was ok
+      module _ {n : ℕ} (q : n ≡ markAt (serverOf d t) b) where
+        pub copies-done : m ≤ n → t ≡ z
+        copies-done l = sym (e ∙ done t left (ap (λ (k : ℕ). ltb k m) (sym q) ∙ le-ltb n m l))
+
+        module _ (l : 0 < left) (w : n < m) {t′ : Trail} (made : t′ ≡ copied t) {x : Bool} (ok : x ≡ isOk (t′ .reply)) where
+          below : ltb (markAt (serverOf d t) b) m ≡ true
+          below = ap (λ (k : ℕ). ltb k m) (sym q) ∙ lt-ltb n m w
+
+          answer : x ≡ isOk (copied t .reply)
+          answer = ok ∙ ap (λ (u : Trail). isOk (u .reply)) made
+
+          pub copies-stop : x ≡ false → t′ ≡ z
+          copies-stop o = made ∙ sym (e ∙ stop t left l below (sym answer ∙ o))
+
+          pub copies-on : x ≡ true → z ≡ copiedUp (left - 1) t′
+          copies-on o = e ∙ goes t left l below (sym answer ∙ o) ∙ ap (copiedUp (left - 1)) (sym made)
+
+    copies-length : (turns : ℕ) (t : Trail) → length (copies h d a m b turns t) ≤ turns
+    unfolding copies
+    copies-length zero t = omega arith
+    copies-length (suc turns) t = go (ltb (markAt (serverOf d t) b) m) (isOk (copied t .reply)) (copies-length turns (copied t))
+      where
+        go :
+            (x y : Bool)
+            → length (copies h d a m b turns (copied t)) ≤ turns
+            → length (cond x (copying d t a b ∷ cond y (copies h d a m b turns (copied t)) []) []) ≤ suc turns
+        go true true e = omega arith
+        go true false e = omega arith
+        go false y e = omega arith
+
+    copiesTo-length : (t : Trail) → length (copiesTo h d a m b t) ≤ m
+    copiesTo-length t = go (activeAt (serverOf d t) b)
+      where
+        go : (x : Bool) → length (cond x (copies h d a m b (lacks (serverOf d t) m b) t) []) ≤ m
+        go true = omega (arith, copies-length (lacks (serverOf d t) m b) t)
+        go false = omega arith
+
+    pub copiesTo-count : (t : Trail) → played h t (copiesTo h d a m b t) .count ≤ t .count + m
+    copiesTo-count t = omega (arith, played-count h t (copiesTo h d a m b t), copiesTo-length t)
+
+  -- ---- the copies of all
+
+  abbrev pub caughtUp : ℕ → ℕ → Trail → ℕ → Trail
+  caughtUp a m t b = played h t (copiesTo h d a m b t)
+
+  pub allCopies-over : (a m : ℕ) (t : Trail) (l : List ℕ) → played h t (allCopies h d a m t l) ≡ over (caughtUp a m) t l
+  unfolding played allCopies over
+  allCopies-over a m t [] = refl
+  allCopies-over a m t (b ∷ bs) =
+      played-join h t (copiesTo h d a m b t) (allCopies h d a m (caughtUp a m t b) bs) ∙ allCopies-over a m (caughtUp a m t b) bs
+
+  -- ---- the whole
+
+  pub afterTake-is :
+      (t : Trail)
+      → let t′ = played h t (prepares h d t (d .listed)) in
+      let t″ = played h t′ (catchingUp h d t′) in played h t (afterTake h d t) ≡ one h t″ (opening d t″)
+  unfolding played afterTake
+  afterTake-is t =
+      let ps = prepares h d t (d .listed) in
+      let t′ = played h t ps in
+      let cs = catchingUp h d t′ in
+      let os = opening d (played h t′ cs) ∷ [] in
+      played-join h t ps (cs ++ os) ∙ played-join h t′ cs os
+
+  abbrev pub taken : Trail → Trail
+  taken t = one h t (taking d t)
+
+  pub fromTake-ends : (t : Trail) → isOk (taken t .reply) ≡ false → played h t (fromTake h d t) ≡ taken t
+  unfolding played fromTake
+  fromTake-ends t o = rw o
+
+  pub fromTake-goes-on : (t : Trail) → isOk (taken t .reply) ≡ true → played h t (fromTake h d t) ≡ played h (taken t) (afterTake h d (taken t))
+  unfolding played fromTake
+  fromTake-goes-on t o = rw o

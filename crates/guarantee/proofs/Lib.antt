@@ -59,3 +59,7 @@ pub mod Once
 pub mod Interval
 pub mod InFlight
 pub mod Readers
+pub mod Driven
+pub mod Items
+pub mod Between
+pub mod Recoveries

@@ -16,7 +16,7 @@
 --
 -- Each list of calls that fit and of recoveries is one of these lists: proofs/ReadableItems.antt `readable-items`. The state that a recovery leaves is the
 -- one that crate recovery gives, and it counts for as many calls (proofs/Items.antt `state-equation`). What is shown of every list of calls holds of every
--- list of items (proofs/Recoveries.antt `over-items`; proofs/Alike.antt has the theorems beside the guarantee). The crate guarantee_example works a list with
+-- list of items (proofs/Recoveries.antt `over-items`; proofs/AfterItems.antt has the theorems beside the guarantee). The crate guarantee_example works a list with
 -- two recoveries out.
 -- The notation is explained at the head of Guarantee.antt.
 -- Assumes nothing.

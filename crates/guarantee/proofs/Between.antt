@@ -6,7 +6,6 @@ use mathlib.Core.Logic.{_⊎_, inl, inr}
 use mathlib.Core.Bool.{Bool, true, false, cond, true≢false}
 use mathlib.Core.List.{List, [], _∷_, map}
 use Prim.Native.Nat.{ℕ}
-use native.Mathlib.Omega.{arith}
 use Rattle.fate.specs.declared.Fate.{Fate}
 use Rattle.cluster.specs.declared.Shape.{Shape}
 use Rattle.cluster.specs.declared.Call.{Call}
@@ -22,7 +21,7 @@ use Rattle.guarantee.specs.History.{Element, Session, History, setAt, st
 use Rattle.guarantee.specs.Recoveries.{reading}
 use Rattle.guarantee.proofs.Sessions.{setAt-same, setAt-elim}
 use Rattle.guarantee.proofs.Registers.{unchanged}
-use Rattle.guarantee.proofs.Passing.{Passes, step-passes, Refused, judged}
+use Rattle.guarantee.proofs.Passing.{Passes, Refused, judged}
 use Rattle.guarantee.proofs.Along.{next-declined, next-passed}
 use Rattle.guarantee.proofs.Driven.{AllQuiet}
 

@@ -1,13 +1,13 @@
 -- The calls of a recovery, whatever state it finds: their arguments fit, and none opens a session but an open by its server, which is the last (`calls-fit`).
 -- Assumes nothing.
-use mathlib.Core.Path.{_≡_, refl, sym, ap, _∙_}
+use mathlib.Core.Path.{_≡_, refl, sym, ap}
 use mathlib.Core.Logic.{_⊎_, inl, inr}
-use mathlib.Core.Bool.{Bool, true, false, not, cond, _||_, true≢false}
+use mathlib.Core.Bool.{Bool, true, false, cond, true≢false}
 use mathlib.Core.List.{List, [], _∷_, _++_, append-assoc}
 use Prim.Native.Nat.{ℕ, zero, suc, _*_}
 use native.Mathlib.Omega.{arith}
 use lib.ListN.{length, length-replicate}
-use lib.Dec.{ltb, eqb}
+use lib.Dec.{ltb}
 use borrow.Author.Tests.{ltb-true, eqb-true, not-false}
 use Rattle.base.proofs.Tests.{neither}
 use Rattle.octets.specs.Octets.{part}
@@ -15,14 +15,13 @@ use Rattle.octets.proofs.Laws.{length-part}
 use Rattle.fate.specs.declared.Fate.{Fate}
 use Rattle.storage.specs.Sizes.{placeSize}
 use Rattle.cluster.specs.declared.Shape.{Shape}
-use Rattle.cluster.specs.declared.Call.{Call}
 use Rattle.cluster.specs.declared.Call.the-variants as call
 use Rattle.cluster.specs.State.{State, activeAt, markAt}
 use Rattle.cluster.specs.Refusals.{Input, outside, Verdict, pass, declined, firstOf}
 use Rattle.cluster.specs.Effects.{noBytes}
 use Rattle.cluster.proofs.Rows.{passed}
 use Rattle.recovery.specs.Recovery.{Recovery, Trail, one, played, givenAt, bare, taking, preparing, copying, opening, isOk, serverOf, prepares, copies, lacks, copiesTo, allCopies, catchingUp, afterTake, fromTake, otherGiven, recoveryRows, begun, callsOf}
-use Rattle.guarantee.specs.Guarantee.{messages, Fits}
+use Rattle.guarantee.specs.Guarantee.{Fits}
 
 -- ================ what is shown
 

@@ -5,7 +5,7 @@
 use mathlib.Core.Path.{_≡_, refl, sym, ap, ap₂, _∙_, subst, subst⁻¹}
 use mathlib.Core.Logic.{_⊎_, inl, inr}
 use mathlib.Core.Bool.{true, false, true≢false}
-use mathlib.Core.List.{List, [], _∷_, _++_, map}
+use mathlib.Core.List.{List, [], _∷_, map}
 use Prim.Native.Nat.{ℕ, _<_}
 use Rattle.fate.specs.declared.Fate.{Fate}
 use Rattle.cluster.specs.declared.Shape.{Shape}
@@ -14,8 +14,8 @@ use Rattle.cluster.specs.State.{entryAt}
 use Rattle.cluster.specs.Refusals.{Input}
 use Rattle.recovery.specs.Recovery.{Recovery, bare, callsOf}
 use Rattle.guarantee.specs.Registers.{changed}
-use Rattle.guarantee.specs.History.{Element, Moment, next, beginning, along}
-use Rattle.guarantee.specs.Guarantee.{InRange, Fits, Covered}
+use Rattle.guarantee.specs.History.{Moment, next, beginning, along}
+use Rattle.guarantee.specs.Guarantee.{InRange, Fits}
 use Rattle.guarantee.specs.Recoveries.{Item, one, recovery, reading, elementsOf, nextItem, ReadBy, CoveredItem, CoveredItems}
 use Rattle.guarantee.proofs.Along.{FromFresh}
 use Rattle.guarantee.proofs.Readable.{reads}

@@ -16,7 +16,7 @@ use Rattle.protocol.proofs.Fresh.{fresh-inv}
 use Rattle.protocol.proofs.Keeps.{steps-inv}
 use Rattle.cluster.specs.declared.Shape.{Shape}
 use Rattle.cluster.specs.declared.Call.the-variants as call
-use Rattle.cluster.specs.State.{State, entryAt}
+use Rattle.cluster.specs.State.{entryAt}
 use Rattle.cluster.specs.Refusals.{Input}
 use Rattle.recovery.specs.Recovery.{Recovery, bare, callsOf}
 use Rattle.guarantee.specs.Registers.{changed}

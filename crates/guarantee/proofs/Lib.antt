@@ -34,6 +34,7 @@
 --   Items       what items leave: the state equation of a recovery; the calls that a list of items stands for; calls alone
 --   Driven      the calls of a recovery fit, and none but the last opens a session
 --   Between     what they add to the history
+--   NoMore      of a recovery no more is asked than of its calls
 --   ReadableItems, AfterItems  Readable, and Whole to Readers, of lists of items; Running has them too
 -- Assumes nothing.
 pub mod Ties
@@ -70,5 +71,6 @@ pub mod Driven
 pub mod Items
 pub mod Between
 pub mod Recoveries
+pub mod NoMore
 pub mod ReadableItems
 pub mod AfterItems

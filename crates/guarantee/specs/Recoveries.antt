@@ -12,12 +12,13 @@
 --                                              of it may be cut or lost
 --   "A cut or a loss during it must leave a cluster that later sessions can still trust"  `GuaranteeWithRecoveries`, below: for every list of items
 --   "(whichever such replica is read)"         document 01; `ReadBy`, below
--- Of a recovery nothing else is asked: one that is declined makes no call, and the arguments of the calls of another fit (proofs/Driven.antt `calls-fit`).
+-- Of a recovery nothing else is asked: one that is declined makes no call, and the arguments of the calls of another fit (proofs/Driven.antt `calls-fit`). So
+-- no more is asked of it than Guarantee.antt asks of its calls (proofs/NoMore.antt `no-more`).
 --
 -- Each list of calls that fit and of recoveries is one of these lists: proofs/ReadableItems.antt `readable-items`. The state that a recovery leaves is the
 -- one that crate recovery gives, and it counts for as many calls (proofs/Items.antt `state-equation`). What is shown of every list of calls holds of every
 -- list of items (proofs/Recoveries.antt `over-items`; proofs/AfterItems.antt has the theorems beside the guarantee). The crate guarantee_example works a list with
--- two recoveries out.
+-- three recoveries out.
 -- The notation is explained at the head of Guarantee.antt.
 -- Assumes nothing.
 use Prim.Native.Nat.{ℕ, _<_}

@@ -89,7 +89,8 @@ module _ (h : Shape) (range : InRange h) where
             let k = next h b (reading a (bare (call.Open (d .server) f) [])) in
             let v = go-on m w (map (reading a) ps) (quiet-covered h ps q m a) in
             let z = b .history .current (d .server) in
-            let unopened = ap (λ (t : Session). t .opened) (new h (b .state) (b .history) (v .state) (v .sim) (v .inv) (bare (call.Open (d .server) f) []) .opens (d .server) f refl c) in
+            let once = new h (b .state) (b .history) (v .state) (v .sim) (v .inv) (bare (call.Open (d .server) f) []) in
+            let unopened = ap (λ (t : Session). t .opened) (once .opens (d .server) f refl c) in
             let before : m .history .sessions z .opened ≡ false = sym (quiet-opened h ps q m a z) ∙ unopened in
             let its : k .history .current (d .server) ≡ z = open-current h b (d .server) f a in
             let by : d .server ≡ s = cc in

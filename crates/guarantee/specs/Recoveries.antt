@@ -2,24 +2,26 @@
 -- list of demand 3 may hold it, as the calls it makes." Here a list has items: an item is a call, or a recovery by a driver (crate recovery), which
 -- stands for the calls that it makes. proofs/Recoveries.antt has the theorem: `with-recoveries : GuaranteeWithRecoveries`.
 --
--- What holds is `Kept` of Guarantee.antt, with all three conclusions as they stand there. A list of calls alone is a list of items, asked for the same and
--- with the same history (proofs/Items.antt `calls-alone`), so this statement is never weaker than that one. It follows from that one as well, since a
--- list of items is a list of calls (`flat`): the statement adds no meaning to a recovery but its calls, and they belong to the list as any others do.
+-- What holds is `Kept` of Guarantee.antt, its three conclusions as they stand there. The statement is never weaker than that one (proofs/Items.antt
+-- `never-weaker`): a list of calls is a list of items, of which the same is asked and whose history is the same (`calls-alone`). And it gives a recovery no
+-- other meaning than its calls, which belong to the list as any others do: a list of items leaves what the calls leave that it stands for (`flattened`).
 --
 -- The words, and where they are:
 --   "as the calls it makes"                    `elementsOf`, below: recovery specs/Recovery.antt `callsOf`, of the state that the item before left
---   "Add a driver for an idle server, a list of replicas and one of fates, one a call"  recovery specs/Recovery.antt `Recovery`: any fates, so that any call
---                                              of it may be cut or lost
+--   "Add a driver for an idle server, a list of replicas and one of fates, one a call"  recovery specs/Recovery.antt `Recovery`: any fates, so that each of
+--                                              its calls may be cut or lost
 --   "A cut or a loss during it must leave a cluster that later sessions can still trust"  `GuaranteeWithRecoveries`, below: for every list of items
 --   "(whichever such replica is read)"         document 01; `ReadBy`, below
--- Of a recovery nothing else is asked: one that is declined makes no call, and the arguments of the calls of another fit (proofs/Driven.antt `calls-fit`). So
--- no more is asked of it than Guarantee.antt asks of its calls (proofs/NoMore.antt `no-more`).
+-- Of a recovery nothing else is asked: one that is declined makes no call, and of another's calls the arguments fit (proofs/Driven.antt `calls-fit`). So no
+-- more is asked of it than Guarantee.antt asks of its calls (proofs/NoMore.antt `no-more`).
 --
 -- Each list of calls that fit and of recoveries is one of these lists: proofs/ReadableItems.antt `readable-items`. The state that a recovery leaves is the
--- one that crate recovery gives, and it counts for as many calls (proofs/Items.antt `state-equation`). What is shown of every list of calls holds of every
--- list of items (proofs/Recoveries.antt `over-items`; proofs/AfterItems.antt has the theorems beside the guarantee). The crate guarantee_example works a list with
--- three recoveries out.
--- The notation is explained at the head of Guarantee.antt.
+-- one that crate recovery gives, and it counts for as many calls (proofs/Items.antt `state-equation`). What is shown after every list of calls holds after
+-- every list of items (proofs/Recoveries.antt `over-items`; proofs/AfterItems.antt has the theorems beside the guarantee). The crate guarantee_example works
+-- a list with three recoveries out.
+--
+-- The notation is explained at the head of Guarantee.antt. Beside it: `pub data` says which forms a value may have; map f xs is the list of f of each of xs;
+-- xs ++ ys is xs and then ys.
 -- Assumes nothing.
 use Prim.Native.Nat.{ℕ, _<_}
 use mathlib.Core.Path.{_≡_}
@@ -39,6 +41,7 @@ pub data Item : Type 0 where
   one : Element → Item
   recovery : Recovery → ℕ → Item
 
+-- a call of a recovery, with that replica
 abbrev pub reading : ℕ → Input → Element
 reading a p = record { input = p; reader = a }
 
@@ -47,6 +50,7 @@ abbrev pub elementsOf : Shape → Moment → Item → List Element
 elementsOf h m (one e) = e ∷ []
 elementsOf h m (recovery d a) = map (reading a) (callsOf h (m .state) d)
 
+-- what it leaves
 unfoldable pub nextItem : Shape → Moment → Item → Moment
 nextItem h m i = along h m (elementsOf h m i)
 

@@ -59,7 +59,7 @@ fn shapes() -> Vec<Fault> {
         fault(1, "long media", |it| it.cluster.media.push(0)),
         fault(1, "short media", |it| it.cluster.media.truncate(100)),
         fault(1, "short lock tables", |it| it.cluster.locks.truncate(4095)),
-        fault(1, "long lock tables", |it| it.cluster.locks.push(0)),
+        fault(1, "long lock tables", |it| it.cluster.locks.resize(4097, 0)),
     ]
 }
 
@@ -69,8 +69,8 @@ fn lengths() -> Vec<Fault> {
         fault(1, "no given bytes", |it| it.recovery.length = 0),
         fault(1, "given bytes for one fate", |it| it.recovery.length = PLACE_BYTES),
         fault(1, "given bytes for three fates", |it| it.recovery.length = 3 * PLACE_BYTES),
-        fault(1, "a given byte too few", |it| it.recovery.length -= 1),
-        fault(1, "a given byte too many", |it| it.recovery.length += 1),
+        fault(1, "a given byte too few", |it| it.recovery.length = 2 * PLACE_BYTES - 1),
+        fault(1, "a given byte too many", |it| it.recovery.length = 2 * PLACE_BYTES + 1),
         fault(1, "given bytes of the old length", |it| it.recovery.length = 2 * 64),
     ]
 }

@@ -1,7 +1,8 @@
 //! The guarantee between sessions, on long random lists of calls from fresh clusters: every fate, a
 //! cut at any write, old servers that go on talking, sessions that the interval ends, servers stopped
-//! or overtaken with records in flight, gates and booking clients, exports; and on lists whose media were
-//! converted on the way, and that store what the release before took, header 0 among it.
+//! or overtaken with records in flight, gates and booking clients, exports; on lists whose media were
+//! converted on the way, and that store what the release before took, header 0 among it; and on lists with
+//! recoveries.
 
 mod conversions;
 mod exports;
@@ -10,6 +11,7 @@ mod history;
 mod in_flight;
 mod lenient;
 mod limits;
+mod recoveries;
 
 use std::collections::{BTreeMap, BTreeSet};
 

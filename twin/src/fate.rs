@@ -4,7 +4,7 @@ use crate::medium::PlaceBytes;
 use crate::replica::Write;
 
 /// What a cut write leaves: the slot or place as it was, as it should become, or holding the given
-/// bytes.
+/// bytes. A code counts them in this order.
 #[derive(Clone, Copy, Debug, PartialEq, Eq)]
 pub enum Left {
     Old,

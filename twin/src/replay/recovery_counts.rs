@@ -35,7 +35,9 @@ pub const STEPS: [&str; 4] = ["take", "prepare", "copy", "open"];
 pub const PASSED: [&str; 6] =
     ["prepare 6", "prepare 18", "prepare 19", "prepare silent", "copy 6", "copy silent"];
 
-/// What else there is to a recovery; `recovery_trace` says when. The last four are of what comes after it.
+/// What else there is to a recovery; `recovery_trace` says when. The last five are of what comes after one: the
+/// next one after one that did not open, a replica that declines an older server, and calls of the session that
+/// it opened, or the next take.
 pub const FEATURES: [&str; 21] = [
     "none known",
     "no copies",
@@ -52,9 +54,9 @@ pub const FEATURES: [&str; 21] = [
     "fates left",
     "unfit left",
     "others torn",
-    "talked to",
-    "beyond code",
+    "far write",
     "restart",
+    "old server",
     "issue after",
     "send after",
     "take after",
@@ -132,7 +134,7 @@ impl Recoveries {
             (Call::Send { server, .. }, Ok(_)) if driven(*server) => self.feature("send after"),
             (Call::Take { .. }, Ok(Answer::Number(_))) if self.any => self.feature("take after"),
             (Call::Send { .. }, Err(Refusal::OtherPromise)) if self.any => {
-                self.feature("talked to")
+                self.feature("old server")
             }
             _ => {}
         }

@@ -26,7 +26,8 @@ pub fn replay(recorder: &mut Recorder) {
     truncations(recorder);
 }
 
-/// Every fate at this call, which makes one write at most. Where it leaves a write undone or an answer unheard, another recovery follows.
+/// Every fate at this call, which makes one write at most. Where it leaves a write undone or an answer unheard,
+/// another recovery follows.
 fn at_each_call(recorder: &mut Recorder, index: usize) {
     for fate in fates(2) {
         rewind(recorder, &MARKS);

@@ -106,14 +106,14 @@ impl Trace {
         let read = &fates[..made.min(fates.len())];
         let others = (0..).zip(read).any(|(at, fate)| torn(fate) && at != recovery.index);
         let pass = passes(&recovery.bytes, self.after.shape.places);
-        let beyond = |fate: &Fate| matches!(fate, Fate::Cut(write, _) if *write > 1 << 60);
+        let far = |fate: &Fate| matches!(fate, Fate::Cut(write, _) if *write > 1 << 60);
         [
             ("fates short", fates.len() < made),
             ("fates exact", fates.len() == made),
             ("fates left", fates.len() > made),
             ("unfit left", left.iter().any(|fate| matches!(fate, Fate::Cut(0, _)))),
             ("others torn", pass && others),
-            ("beyond code", read.iter().any(beyond)),
+            ("far write", read.iter().any(far)),
         ]
     }
 }

@@ -203,7 +203,9 @@ fn recoveries_end_in_every_way() {
     }
     assert!(recoveries.replied("ok") > recoveries.all() / 2);
     let made = recoveries.counts();
-    assert!((0..=17).all(|count| made.contains(&count) != (count == 2)), "{made:?}");
+    // A take alone, or with a prepare and an open.
+    assert!((0..=14).all(|count| made.contains(&count) != (count == 2)), "{made:?}");
+    assert!(made.last() > Some(&30), "{made:?}");
     for replicas in [1, 3, 5, 7] {
         for count in 1..=replicas as usize {
             assert!(recoveries.listed(replicas, count) > 1, "R = {replicas}, {count} listed");
@@ -242,7 +244,8 @@ fn recoveries_pass_over_replicas_and_go_on() {
     for name in FEATURES {
         assert!(recoveries.met(name) > 0, "{name}");
     }
-    for name in ["not lowest", "above majority", "jump", "past highest", "truncated", "restart"] {
+    let often = ["not lowest", "source shows", "above majority", "jump", "past highest"];
+    for name in often.into_iter().chain(["truncated", "restart"]) {
         assert!(recoveries.met(name) > 10, "{name}");
     }
 }

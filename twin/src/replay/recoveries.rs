@@ -6,6 +6,7 @@ use super::texts::numbers_hex;
 use crate::cluster::{Answer, Call, Cluster, Phase, SERVERS};
 use crate::fate::Fate;
 use crate::medium::{current, is_place, place, place_at, put, PlaceBytes, Record, PLACE_BYTES};
+use crate::tries::headers::with_header;
 use crate::tries::recoveries::{Recovery, MOST_FATES, MOST_LISTED};
 use crate::tries::recovery_rows::{calls, cluster, issue, outcome, parse, ROWS, SHAPE};
 use crate::tries::scene::{record_bytes, set_promise};
@@ -117,7 +118,8 @@ pub fn rewind(recorder: &mut Recorder, marks: &[u64]) {
 }
 
 /// Makes all servers idle. The same cluster with all entries unresolved, every promise at most the session and
-/// logs that end at these marks, in few bytes: a place above that is valid gets another last byte.
+/// logs that end at these marks, in few bytes: a place above that is valid gets another last byte. No two
+/// replicas are given the same record, so that it shows which one a copy is from.
 pub fn rewound(recorder: &mut Recorder, marks: &[u64]) -> Cluster {
     stop_all(recorder);
     let mut cluster = recorder.cluster().clone();
@@ -130,7 +132,10 @@ pub fn rewound(recorder: &mut Recorder, marks: &[u64]) -> Cluster {
             set_promise(medium, session);
         }
         for number in 1..=places {
-            let bytes = if number > mark { spoilt(medium, number) } else { mended(medium, number) };
+            let bytes = match number > mark {
+                true => spoilt(medium, number),
+                false => mended(medium, number, replica as u32),
+            };
             put(medium, place_at(number), &bytes);
         }
     }
@@ -144,14 +149,14 @@ fn spoilt(medium: &[u8], number: u64) -> PlaceBytes {
     bytes
 }
 
-/// The bytes of the place, with another last byte if they are valid with it, or any record.
-fn mended(medium: &[u8], number: u64) -> PlaceBytes {
+/// The bytes of the place, with another last byte if they are valid with it, or else the replica's own record.
+fn mended(medium: &[u8], number: u64, replica: u32) -> PlaceBytes {
     let mut bytes = place(medium, number);
     bytes[PLACE_BYTES - 1] ^= u8::from(!is_place(number, &bytes));
     if is_place(number, &bytes) {
         bytes
     } else {
-        record_bytes(number)
+        with_header(&record_bytes(number), 10 + replica)
     }
 }
 

@@ -38,11 +38,12 @@ pub const PASSED: [&str; 6] =
 /// What else there is to a recovery; `recovery_trace` says when. The last five are of what comes after one: the
 /// next one after one that did not open, a replica that declines an older server, and calls of the session that
 /// it opened, or the next take.
-pub const FEATURES: [&str; 21] = [
+pub const FEATURES: [&str; 22] = [
     "none known",
     "no copies",
     "not first",
     "not lowest",
+    "source shows",
     "above majority",
     "jump",
     "past highest",

@@ -6,8 +6,9 @@ use crate::cluster::Shape;
 use crate::random::Random;
 use crate::votes::quorum;
 
-/// The marks of the first R replicas.
-const MARKS: [u64; 7] = [1, 3, 0, 2, 3, 2, 0];
+/// The marks of the first R replicas. Of three or more, two have the highest, and not the same records: the
+/// list says which of them is the source.
+const MARKS: [u64; 7] = [3, 1, 3, 0, 2, 3, 0];
 
 const PLACES: u64 = 4;
 

@@ -79,7 +79,7 @@ impl Trace {
         &self,
         known: &[(u64, u64)],
         copies: &[(u64, u64, Option<u64>)],
-    ) -> [(&'static str, bool); 5] {
+    ) -> [(&'static str, bool); 6] {
         let highest = known.iter().map(|(_, mark)| *mark).max().unwrap_or(0);
         let at_highest = || known.iter().filter(|(_, mark)| *mark == highest).map(|(it, _)| *it);
         let replicas = self.after.shape.replicas as usize;
@@ -94,6 +94,7 @@ impl Trace {
             ("above majority", any(&|_, _, after| majority.is_some_and(|mark| after > mark))),
             ("jump", any(&|_, mark, after| after > mark + 1)),
             ("past highest", any(&|_, _, after| after > highest)),
+            ("source shows", self.steps.iter().any(|step| shows_source(step, at_highest()))),
         ]
     }
 
@@ -116,6 +117,17 @@ impl Trace {
             ("far write", read.iter().any(far)),
         ]
     }
+}
+
+/// A copy after which other bytes would stand there if another replica that has the mark had been the source.
+fn shows_source(step: &Step, mut sources: impl Iterator<Item = u64>) -> bool {
+    let (Call::Copy { server, from, to, .. }, Ok(Answer::Number(_))) = (&step.call, step.reply)
+    else {
+        return false;
+    };
+    let number = step.before.records.servers[*server as usize].marks[*to as usize] + 1;
+    let bytes = |replica: u64| medium::place(step.before.medium(replica as usize), number);
+    sources.any(|source| bytes(source) != bytes(*from))
 }
 
 /// A prepare that wipes places.

@@ -7,6 +7,7 @@ use twin::fate::{Fate, Left};
 use twin::medium::{mark, place, Record, PLACE_BYTES};
 use twin::random::Random;
 use twin::tries::caller::Caller;
+use twin::tries::headers::{draw_header, with_headers};
 use twin::tries::recoveries::{draw_idle, draw_recovery, Recovery};
 use twin::tries::recovery_faults::{faults, sound, with_faults, Fault, Try, OWN};
 use twin::tries::recovery_rows::{cluster, issue, outcome, parse, MARKS, ROWS};
@@ -144,12 +145,25 @@ fn the_calls_one_after_another() {
     assert_eq!(declined[4..], ["copy 1 to 0 → no 6", "open → no 8"]);
 }
 
-/// "from the first that then had it": by the list, not by the number.
+/// "from the first that then had it": by the list, not by the number. The records of the two that have it
+/// differ, so that it shows in what replica 2 gets.
 #[test]
 fn the_source_is_the_first_of_the_list_at_the_highest_mark() {
     let mut even = cluster();
     assert_eq!(number(&mut even, send(0, 0)), Ok(3));
+    let mut header = 0;
+    let even = with_headers(&even, |_| {
+        header += 1;
+        header
+    });
     for (listed, source) in [([2, 1, 0], 1), ([2, 0, 1], 0), ([0, 2, 1], 0), ([1, 2, 0], 1)] {
+        let mut after = even.clone();
+        let (reply, count) = after.recover(1, &listed, &[], &[]);
+        assert_eq!(outcome((reply, count)), "ok 3, 7");
+        for id in [2, 3] {
+            let [got, other] = [2, source].map(|replica| place(after.medium(replica), id));
+            assert!(got == other && got != place(after.medium(1 - source), id), "{listed:?}");
+        }
         let (calls, end, _) = trace(&even, &Recovery::new(1, &listed, &[]));
         let copies: Vec<&String> = calls.iter().filter(|it| it.starts_with("copy")).collect();
         assert_eq!(
@@ -278,7 +292,7 @@ const KINDS: [&str; 16] = [
     "take ok",
 ];
 
-/// Random states and lists of any kind. "another number is its last call's": 6 or 21 of the take, 6, 8 or 9 of
+/// Random states, whose records all differ, and lists of any kind. "another number is its last call's": 6 or 21 of the take, 6, 8 or 9 of
 /// the open. No prepare or copy is declined for another reason than these, so that nobody meets 1 to 5 twice.
 #[test]
 fn the_driver_leaves_what_its_calls_leave() {
@@ -288,8 +302,9 @@ fn the_driver_leaves_what_its_calls_leave() {
         let most = *random.pick(&[4, 4, 4, 12]);
         let places = 1 + random.below(most);
         let mut draw = Draw { random: &mut random, places };
-        let before = draw.cluster();
-        let recovery = draw.recovery(&before);
+        let cluster = draw.cluster();
+        let recovery = draw.recovery(&cluster);
+        let before = with_headers(&cluster, |_| draw_header(&mut random, 5));
         let (reply, count, met) = check_by_hand(&before, &recovery);
         ends.insert((reply.map_err(|refusal| refusal.number()).err(), count == 0));
         kinds.extend(met);

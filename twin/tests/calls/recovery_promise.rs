@@ -5,6 +5,7 @@ use twin::cluster::{Answer, Cluster, Phase, Refusal, Reply, Standing};
 use twin::fate::Fate;
 use twin::medium::{current, is_place, mark, place, place_at, put, SLOTS_BYTES, WIPED};
 use twin::random::Random;
+use twin::tries::headers::{draw_header, with_headers};
 use twin::tries::recoveries::Recovery;
 use twin::tries::recovery_rows::{cluster, outcome};
 use twin::tries::scene::{record_bytes, set_place, set_promise};
@@ -24,8 +25,8 @@ fn clear_above(random: &mut Random, cluster: &mut Cluster, replica: usize) {
     }
 }
 
-/// A drawn state and a list, such that nothing declines the driver, no number is at its top and no valid place
-/// lies above a mark of the list. Slots and promises are as they are drawn.
+/// A drawn state, whose records all differ, and a list, such that nothing declines the driver, no number is at
+/// its top and no valid place lies above a mark of the list. Slots and promises are as they are drawn.
 fn draw(random: &mut Random) -> (Cluster, Recovery) {
     loop {
         let places = 1 + random.below(6);
@@ -44,7 +45,7 @@ fn draw(random: &mut Random) -> (Cluster, Recovery) {
         for &replica in &recovery.listed {
             clear_above(random, &mut cluster, replica as usize);
         }
-        return (cluster, recovery);
+        return (with_headers(&cluster, |_| draw_header(random, 5)), recovery);
     }
 }
 

@@ -8,6 +8,7 @@ pub mod Staying
 pub mod Listed
 pub mod Highest
 pub mod Distinct
+pub mod Bounded
 pub mod Preparing
 pub mod Copying
 pub mod Opening

@@ -9,6 +9,7 @@ pub mod Turns
 pub mod Listed
 pub mod Highest
 pub mod Distinct
+pub mod Bounded
 pub mod Preparing
 pub mod Copying
 pub mod Opening

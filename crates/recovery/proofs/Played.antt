@@ -1,6 +1,6 @@
 -- Calls played one after another: what is left after some of them, for a loop over the listed replicas and for one over the copies of a replica.
 -- Assumes nothing.
-use mathlib.Core.Path.{_≡_, refl, sym, ap, _∙_}
+use mathlib.Core.Path.{_≡_, refl, sym, ap, ap₂, _∙_}
 use mathlib.Core.Bool.{Bool, true, false, cond}
 use mathlib.Core.List.{List, [], _∷_, _++_}
 use Prim.Native.Nat.{ℕ, zero, suc, _+_, _-_, _*_, _≤_, _<_}
@@ -13,7 +13,7 @@ use lib.Seq.{drop-cons}
 use Rattle.cluster.specs.declared.Shape.{Shape}
 use Rattle.cluster.specs.State.{activeAt, markAt}
 use Rattle.cluster.specs.Refusals.{Input}
-use Rattle.recovery.specs.Recovery.{Recovery, Trail, one, played, taking, preparing, copying, opening, isOk, serverOf, prepares, copies, lacks, copiesTo, allCopies, catchingUp, afterTake, fromTake}
+use Rattle.recovery.specs.Recovery.{Recovery, Trail, one, played, taking, preparing, copying, opening, isOk, serverOf, prepares, highestKnown, firstAt, copies, lacks, copiesTo, allCopies, catchingUp, afterTake, fromTake}
 use Rattle.recovery.proofs.Counts.{played-count, played-join}
 
 -- ---- a walk over a list, one element after another
@@ -132,19 +132,39 @@ module _ (h : Shape) (d : Recovery) where
         go true = omega (arith, copies-length (lacks (serverOf d t) m b) t)
         go false = omega arith
 
-    pub copiesTo-count : (t : Trail) → played h t (copiesTo h d a m b t) .count ≤ t .count + m
-    copiesTo-count t = omega (arith, played-count h t (copiesTo h d a m b t), copiesTo-length t)
+    pub copiesTo-count : {z : Trail} (t : Trail) → z ≡ played h t (copiesTo h d a m b t) → z .count ≤ t .count + m
+    copiesTo-count t e = omega (arith, ap (λ (u : Trail). u .count) e, played-count h t (copiesTo h d a m b t), copiesTo-length t)
 
   -- ---- the copies of all
 
   abbrev pub caughtUp : ℕ → ℕ → Trail → ℕ → Trail
   caughtUp a m t b = played h t (copiesTo h d a m b t)
 
+  -- x is whether b is known, n what it lacks
+  module _ (a m b : ℕ) (t : Trail) {x : Bool} (q : x ≡ activeAt (serverOf d t) b) where
+    pub passed-over : x ≡ false → t ≡ caughtUp a m t b
+    unfolding played
+    passed-over e = rw (sym q ∙ e)
+
+    pub brought-up : {n : ℕ} {z : Trail} → x ≡ true → n ≡ lacks (serverOf d t) m b → z ≡ copiedUp a m b n t → z ≡ caughtUp a m t b
+    brought-up e l r = rw (sym q ∙ e) (r ∙ ap (λ (n : ℕ). copiedUp a m b n t) l)
+
   pub allCopies-over : (a m : ℕ) (t : Trail) (l : List ℕ) → played h t (allCopies h d a m t l) ≡ over (caughtUp a m) t l
   unfolding played allCopies over
   allCopies-over a m t [] = refl
   allCopies-over a m t (b ∷ bs) =
       played-join h t (copiesTo h d a m b t) (allCopies h d a m (caughtUp a m t b) bs) ∙ allCopies-over a m (caughtUp a m t b) bs
+
+  -- m is the highest mark known, a the first that has it
+  pub caught-up-is :
+      {m a : ℕ} {z : Trail} (t : Trail)
+      → m ≡ highestKnown (serverOf d t) (d .listed)
+      → a ≡ firstAt (serverOf d t) m (d .listed)
+      → z ≡ played h t (allCopies h d a m t (d .listed))
+      → z ≡ played h t (catchingUp h d t)
+  caught-up-is t em ea e =
+      e
+      ∙ ap₂ (λ (i n : ℕ). played h t (allCopies h d i n t (d .listed))) (ea ∙ ap (λ (n : ℕ). firstAt (serverOf d t) n (d .listed)) em) em
 
   -- ---- the whole
 

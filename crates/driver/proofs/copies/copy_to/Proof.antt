@@ -1,12 +1,11 @@
+-- `copies::copy_to`: one that isn't known is passed over (`passed-over`), another brought up as far as it lacks (`brought-up`).
+use borrow.Author.Tests.{not-true, not-false}
+use Rattle.recovery.proofs.Played.{passed-over, brought-up}
+use Rattle.driver.specs.Asked.{trailOf}
 use native.Mathlib.Omega.{arith}
 use borrow.Author.Needs.{needs}
 use Rattle.driver.proofs.copies.copy_to.Statement.{statement}
 use Rattle.driver.proofs.copies.copy_to.Tie as tie
-use Rattle.driver.proofs.copies.copy_to.Reads as reads
-use Rattle.driver.proofs.copies.copy_to.Lts as lts
-use Rattle.delivery.proofs.plan.is_active.Reads as is-active-reads
-use Rattle.driver.proofs.copies.copy_up.Reads as copy-up-reads
-use Rattle.driver.proofs.copies.lacks_of.Reads as lacks-of-reads
 
 mul-v : tie.Need-mul-v
 mul-v c = search needs
@@ -18,7 +17,9 @@ is-active-requires : tie.Need-is-active-requires
 is-active-requires c κs = search needs
 
 returns : tie.Need-returns
-returns c = ?
+returns c =
+    let a = c .before .before .before .before .before .before .before .before .args in
+    λ listed. passed-over (a .shape) _ _ _ _ (trailOf (a .g) (a .media .now) (a .tables .now)) (c .before .is-active .ensures) (not-true _ (c .if1 .taken))
 
 lacks-of-requires : tie.Need-lacks-of-requires
 lacks-of-requires c κs = search needs
@@ -30,7 +31,10 @@ same-length : tie.Need-same-length
 same-length c = search needs
 
 returns-2 : tie.Need-returns-2
-returns-2 c = ?
+returns-2 c =
+    let a = c .before .before .before .before .before .before .before .before .before .before .before .before .before .args in
+    λ listed.
+    brought-up (a .shape) _ _ _ _ (trailOf (a .g) (a .media .now) (a .tables .now)) (c .before .before .before .before .before .before .is-active .ensures) (not-false _ (c .before .before .before .before .before .if1 .left)) (c .before .before .before .before .lacks-of .ensures) (c .before .before .copy-up .ensures listed)
 
 pub copy-to-spec : {M : Type 1} → statement M
 copy-to-spec =

@@ -1,6 +1,6 @@
 -- What a recovery copies up to is at most N, so that its calls are few enough to be counted in a word.
 -- Assumes nothing.
-use mathlib.Core.Path.{_≡_, refl}
+use mathlib.Core.Path.{_≡_, refl, ap}
 use mathlib.Core.Bool.{Bool, true, false, cond}
 use mathlib.Core.List.{List, [], _∷_}
 use Prim.Native.Nat.{ℕ, suc, _+_, _*_, _≤_, _<_}
@@ -10,7 +10,7 @@ use Rattle.cluster.specs.declared.Shape.{Shape}
 use Rattle.cluster.specs.declared.Server.{Server}
 use Rattle.cluster.specs.State.{serverAt, markAt, activeAt}
 use Rattle.cluster.proofs.Marks.{marks-fit}
-use Rattle.recovery.specs.Recovery.{Recovery, Trail, played, serverOf, prepares, highestKnown, allCopies, unlisted}
+use Rattle.recovery.specs.Recovery.{Recovery, Trail, played, serverOf, prepares, highestKnown, firstAt, allCopies, catchingUp, unlisted}
 use Rattle.recovery.proofs.Steady.{Steady, steady-prepare}
 use Rattle.recovery.proofs.Listed.{first-below}
 use Rattle.recovery.proofs.Played.{over, over-keeps, prepared, prepares-over, caughtUp, copiesTo-count, allCopies-over}
@@ -41,5 +41,11 @@ module _ (h : Shape) (d : Recovery) where
   over-count a m n t (b ∷ bs) w =
       omega (arith, over-count a m n (caughtUp h d a m t b) bs w, copiesTo-count h d a m b {z = caughtUp h d a m t b} t refl)
 
-  pub allCopies-count : (a m n : ℕ) (t : Trail) (l : List ℕ) → m ≤ n → played h t (allCopies h d a m t l) .count ≤ t .count + n * length l
+  allCopies-count : (a m n : ℕ) (t : Trail) (l : List ℕ) → m ≤ n → played h t (allCopies h d a m t l) .count ≤ t .count + n * length l
   allCopies-count a m n t l w = rw (allCopies-over h d a m t l) (over-count a m n t l w)
+
+  pub catching-count : (n : ℕ) {z : Trail} (t : Trail) → highestKnown (serverOf d t) (d .listed) ≤ n → z ≡ played h t (catchingUp h d t) → z .count ≤ t .count + n * length (d .listed)
+  catching-count n t w e =
+      let v = serverOf d t in
+      let m = highestKnown v (d .listed) in
+      omega (arith, ap (λ (u : Trail). u .count) e, allCopies-count (firstAt v m (d .listed)) m n t (d .listed) w)

@@ -11,9 +11,10 @@ use borrow.Author.Tests.{lt-ltb, le-ltb}
 use lib.ListN.{length, drop, getD, length-append, drop-of-length-le}
 use lib.Seq.{drop-cons}
 use Rattle.cluster.specs.declared.Shape.{Shape}
-use Rattle.cluster.specs.State.{activeAt, markAt}
-use Rattle.cluster.specs.Refusals.{Input}
-use Rattle.recovery.specs.Recovery.{Recovery, Trail, one, played, taking, preparing, copying, opening, isOk, serverOf, prepares, highestKnown, firstAt, copies, lacks, copiesTo, allCopies, catchingUp, afterTake, fromTake}
+use Rattle.cluster.specs.State.{State, activeAt, markAt}
+use Rattle.cluster.specs.Replies.{no, silent}
+use Rattle.cluster.specs.Refusals.{Input, pass, declined, firstOf}
+use Rattle.recovery.specs.Recovery.{Recovery, Trail, one, played, taking, preparing, copying, opening, isOk, serverOf, prepares, highestKnown, firstAt, copies, lacks, copiesTo, allCopies, catchingUp, afterTake, fromTake, recoveryRows, begun, callsOf, recovered}
 use Rattle.recovery.proofs.Counts.{played-count, played-join}
 
 -- ---- a walk over a list, one element after another
@@ -166,27 +167,46 @@ module _ (h : Shape) (d : Recovery) where
       e
       ∙ ap₂ (λ (i n : ℕ). played h t (allCopies h d i n t (d .listed))) (ea ∙ ap (λ (n : ℕ). firstAt (serverOf d t) n (d .listed)) em) em
 
-  -- ---- the whole
+  -- ---- the whole: z is what is come to at the end
 
+  -- u is what the prepares leave, v what the copies leave
   pub afterTake-is :
-      (t : Trail)
-      → let t′ = played h t (prepares h d t (d .listed)) in
-      let t″ = played h t′ (catchingUp h d t′) in played h t (afterTake h d t) ≡ one h t″ (opening d t″)
+      {u v z : Trail} (t : Trail)
+      → u ≡ played h t (prepares h d t (d .listed))
+      → v ≡ played h u (catchingUp h d u)
+      → z ≡ one h v (opening d v)
+      → z ≡ played h t (afterTake h d t)
   unfolding played afterTake
-  afterTake-is t =
+  afterTake-is t eu ev ez =
       let ps = prepares h d t (d .listed) in
-      let t′ = played h t ps in
-      let cs = catchingUp h d t′ in
-      let os = opening d (played h t′ cs) ∷ [] in
-      played-join h t ps (cs ++ os) ∙ played-join h t′ cs os
+      let cs = catchingUp h d (played h t ps) in
+      let os = opening d (played h (played h t ps) cs) ∷ [] in
+      ez
+      ∙ ap (λ (y : Trail). one h y (opening d y)) (ev ∙ ap (λ (y : Trail). played h y (catchingUp h d y)) eu)
+      ∙ sym (played-join h t ps (cs ++ os) ∙ played-join h (played h t ps) cs os)
 
-  abbrev pub taken : Trail → Trail
-  taken t = one h t (taking d t)
+  -- u is what the take leaves, x whether it was ok
+  module _ {u : Trail} {x : Bool} (t : Trail) (made : u ≡ one h t (taking d t)) (ok : x ≡ isOk (u .reply)) where
+    answer-is : x ≡ isOk (one h t (taking d t) .reply)
+    answer-is = ok ∙ ap (λ (y : Trail). isOk (y .reply)) made
 
-  pub fromTake-ends : (t : Trail) → isOk (taken t .reply) ≡ false → played h t (fromTake h d t) ≡ taken t
-  unfolding played fromTake
-  fromTake-ends t o = rw o
+    pub fromTake-ends : x ≡ false → u ≡ played h t (fromTake h d t)
+    unfolding played fromTake
+    fromTake-ends o = rw (sym answer-is ∙ o) made
 
-  pub fromTake-goes-on : (t : Trail) → isOk (taken t .reply) ≡ true → played h t (fromTake h d t) ≡ played h (taken t) (afterTake h d (taken t))
-  unfolding played fromTake
-  fromTake-goes-on t o = rw o
+    pub fromTake-goes-on : {z : Trail} → x ≡ true → z ≡ played h u (afterTake h d u) → z ≡ played h t (fromTake h d t)
+    unfolding played fromTake
+    fromTake-goes-on o e = rw (sym answer-is ∙ o) (e ∙ ap (λ (y : Trail). played h y (afterTake h d y)) made)
+
+  module _ (x : State) where
+    -- before the first call
+    abbrev pub start : Trail
+    start = record { state = x; reply = silent; count = 0 }
+
+    pub recovered-declined : {z : Trail} (n : ℕ) (values : List ℕ) → firstOf (recoveryRows h x d) ≡ declined n values → z ≡ record { state = x; reply = no n values; count = 0 } → z ≡ recovered h x d
+    unfolding recovered callsOf begun played
+    recovered-declined n values e q = rw e q
+
+    pub recovered-passed : {z : Trail} → firstOf (recoveryRows h x d) ≡ pass → z ≡ played h start (fromTake h d start) → z ≡ recovered h x d
+    unfolding recovered callsOf begun
+    recovered-passed e q = rw e q

@@ -1,0 +1,62 @@
+-- What a recovery's own refusals leave known at each stage of it: after the take, before the copies, before the open.
+-- Assumes nothing.
+use mathlib.Core.Path.{_≡_, sym, ap, _∙_}
+use mathlib.Core.Bool.{false}
+use mathlib.Core.List.{List}
+use Prim.Native.Nat.{ℕ, _+_, _*_, _≤_, _<_, _^_}
+use native.Mathlib.Omega.{arith}
+use lib.ListN.{length, length-map}
+use Rattle.storage.specs.Sizes.{placeSize}
+use Rattle.cluster.specs.declared.Shape.{Shape}
+use Rattle.cluster.specs.State.{State}
+use Rattle.cluster.specs.Refusals.{pass, firstOf}
+use Rattle.checks.proofs.Sizes.{within}
+use Rattle.recovery.specs.Recovery.{Recovery, Trail, fateOf, one, played, taking, serverOf, prepares, highestKnown, catchingUp, unlisted, recoveryRows}
+use Rattle.recovery.proofs.Steady.{Steady, steady-take}
+use Rattle.recovery.proofs.Own.{own}
+use Rattle.recovery.proofs.Distinct.{below-at, distinct-few}
+use Rattle.recovery.proofs.Played.{prepares-count}
+use Rattle.recovery.proofs.Bounded.{steady-prepares, highest-within, catching-count}
+use Rattle.driver.specs.Asked.{askedOf, Named}
+
+-- what a recovery that isn't declined knows
+pub record Known (h : Shape) (x : State) (s : ℕ) (listed fs given : List ℕ) : Type 0 where
+  pub steady : Steady h x
+  pub beside : length given ≡ length fs * placeSize
+  pub server : s < 4
+  pub below : unlisted (h .replicas) listed ≡ false
+  pub named : Named listed
+
+pub known : (h : Shape) (x : State) (s : ℕ) (listed fs given : List ℕ) → firstOf (recoveryRows h x (askedOf s listed fs given)) ≡ pass → Known h x s listed fs given
+known h x s listed fs given e =
+    let a = own h x (askedOf s listed fs given) e in
+    let w = within h (length (x .media)) (length (x .tables)) (a .steady .inside) in
+    record {
+      steady = a .steady;
+      beside = a .given ∙ ap (λ (n : ℕ). n * placeSize) (length-map fs fateOf);
+      server = a .server;
+      below = a .below;
+      named =
+          record {
+            few = omega (arith, w .replicas, distinct-few (h .replicas) listed (a .below) (a .once));
+            below = λ k l. omega (arith, w .replicas, below-at (h .replicas) listed k (a .below) l);
+          };
+    }
+
+module _ (h : Shape) (d : Recovery) where
+  pub after-take : {u : Trail} (t : Trail) → u ≡ one h t (taking d t) → Steady h (t .state) → Steady h (u .state)
+  after-take t e s = rw e (steady-take h d t s)
+
+  -- u is what the prepares leave, v what the copies leave
+  module _ {u : Trail} (t : Trail) (eu : u ≡ played h t (prepares h d t (d .listed))) (few : t .count + length (d .listed) ≤ 8) where
+    pub count-prepared : u .count ≤ 8
+    count-prepared = omega (arith, ap (λ (y : Trail). y .count) eu, prepares-count h d t (d .listed))
+
+    module _ (s : Steady h (t .state)) (l : d .server < 4) (below : unlisted (h .replicas) (d .listed) ≡ false) where
+      pub mark-prepared : highestKnown (serverOf d u) (d .listed) ≤ 1000
+      mark-prepared =
+          let q : Steady h (u .state) = rw eu (steady-prepares h d t (d .listed) s) in
+          omega (arith, highest-within h d u q l below, within h (length (u .state .media)) (length (u .state .tables)) (q .inside) .most)
+
+      pub count-copied : {v : Trail} → v ≡ played h u (catchingUp h d u) → length (d .listed) ≤ 7 → v .count + 1 < 2 ^ 64
+      count-copied ev seven = omega (arith, count-prepared, catching-count h d 1000 u mark-prepared ev)

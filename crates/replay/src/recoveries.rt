@@ -1,9 +1,6 @@
 // recover, server, length, index, LISTED, FATES: a recovery. LISTED and FATES are the digits of numbers of eight bytes each: the listed replicas, and what stands
 // for each fate. So many bytes as `length` says are lent beside the fates: for the fate at `index` those of the last given line, and zeros for the others. The
 // count of calls stands behind the reply.
-ghost use mathlib.Core.Path.{_≡_};
-ghost use Prim.Native.Nat.{_*_, _≤_};
-ghost use lib.ListN.{length};
 use crate::perform;
 use recovery::Recovered;
 use replay_state::cells;
@@ -27,12 +24,17 @@ const BESIDE: usize = FATES * PLACE;
 // The digits of a number.
 const DIGITS: usize = 16;
 
-// The numbers whose digits s has.
-fn read(s: &[u8], out: &mut [u64]) -> bool
-    requires { ⌜ length (now s) ≡ 16 * length (now out) ⌝ }
-{
+// The numbers whose digits s has, in front in out: false where these are no digits of numbers, or of more than out takes.
+fn read(s: &[u8], out: &mut [u64]) -> bool {
+    let n = s.len() / DIGITS;
+    if out.len() < n {
+        return false;
+    }
+    if s.len() % DIGITS != 0 {
+        return false;
+    }
     let mut i = 0;
-    while i < out.len() {
+    while i < n {
         let at = DIGITS * i;
         let e = at + DIGITS;
         let mut b = [0u8; 8];
@@ -45,15 +47,24 @@ fn read(s: &[u8], out: &mut [u64]) -> bool
     true
 }
 
-// Whether a field can be the digits of at most so many numbers.
-fn is_short(s: &[u8], most: usize) -> bool {
-    if s.len() % DIGITS != 0 {
-        return false;
-    }
-    s.len() / DIGITS <= most
+fn make(
+    server: u64,
+    listed: &[u64],
+    fates: &[u64],
+    given: &[u8],
+    m: &mut [u8],
+    tables: &mut [u64],
+    w: &mut Cells,
+) {
+    let shape = perform::shape(w);
+    let held = records::of(w);
+    let o = driver::recover(shape, held, m, tables, server, listed, fates, given);
+    keep(o, w);
+    perform::print_sums(m, tables, w);
+    print::text(b"\n");
 }
 
-// The recovery, on slices that are lent at the lengths that are held.
+// The slices are lent at the lengths that are held.
 fn recover(
     server: u64,
     listed: &[u64],
@@ -65,19 +76,15 @@ fn recover(
 ) {
     let a = perform::least(cells::at(w, LENT), m.len());
     let b = perform::least(cells::at(w, LENT + 1), tables.len());
-    let o = driver::recover(
-        perform::shape(w),
-        records::of(w),
-        &mut m[0..a],
-        &mut tables[0..b],
+    make(
         server,
         listed,
         fates,
         given,
+        &mut m[0..a],
+        &mut tables[0..b],
+        w,
     );
-    keep(o, w);
-    perform::print_sums(&m[0..a], &tables[0..b], w);
-    print::text(b"\n");
 }
 
 // The records that it leaves are held; the reply and the count of calls are printed.
@@ -127,14 +134,20 @@ fn with_bytes(
 pub fn fits(line: &[u8], m: &mut [u8], tables: &mut [u64], w: &mut Cells) -> bool {
     let a = line::field(line, 4);
     let b = line::field(line, 5);
-    if !is_short(a, LISTED) || !is_short(b, FATES) {
-        return false;
-    }
     let n = a.len() / DIGITS;
     let k = b.len() / DIGITS;
+    if LISTED < n {
+        return false;
+    }
+    if FATES < k {
+        return false;
+    }
     let mut listed = [0u64; LISTED];
     let mut fates = [0u64; FATES];
-    if !read(a, &mut listed[0..n]) || !read(b, &mut fates[0..k]) {
+    if !read(a, &mut listed) {
+        return false;
+    }
+    if !read(b, &mut fates) {
         return false;
     }
     with_bytes(line, &listed[0..n], &fates[0..k], m, tables, w)

@@ -31,7 +31,8 @@ use Rattle.cluster.proofs.Rows.{passed}
 use Rattle.cluster.proofs.AsStored.{media-size}
 use Rattle.recovery.specs.Recovery.{Recovery, Trail, fateAt, one, played, taking, opening, isOk, serverOf, prepares, highestKnown, firstAt, catchingUp, afterTake, fromTake, contains, repeats, namesNone, unlisted, recoveryRows, begun, callsOf, recovered}
 use Rattle.recovery.specs.Arrival.{Typed, ready, howMany, taken, prepared, highestMark, lacking, Met, Arrived, Arrives}
-use Rattle.recovery.proofs.Counts.{played-count, played-join, played-more}
+use Rattle.recovery.proofs.Counts.{played-count, played-more}
+use Rattle.recovery.proofs.Played.{prepares-length, afterTake-is}
 use Rattle.recovery.proofs.Steady.{Steady, medium-size}
 use Rattle.recovery.proofs.Own.{Admitted, own, take-rows}
 use Rattle.recovery.proofs.Listed.{listed-below}
@@ -42,11 +43,6 @@ use Rattle.recovery.proofs.Copying as copying
 use Rattle.recovery.proofs.Opening.{Odd, odd-replicas, opens, is-open}
 
 -- ---- where the calls of a recovery that isn't declined end
-
-pub prepares-length : (h : Shape) (d : Recovery) (t : Trail) (is : List ℕ) → length (prepares h d t is) ≡ length is
-unfolding prepares
-prepares-length h d t [] = refl
-prepares-length h d t (i ∷ is) = ap suc (prepares-length h d _ is)
 
 module _ (h : Shape) (x : State) (d : Recovery) (admitted : firstOf (recoveryRows h x d) ≡ pass) where
   -- the calls behind the take
@@ -66,12 +62,10 @@ module _ (h : Shape) (x : State) (d : Recovery) (admitted : firstOf (recoveryRow
   caught = played h (prepared h x d) (catchingUp h d (prepared h x d))
 
   pub ends : isOk (taken h x d .reply) ≡ true → recovered h x d ≡ one h caught (opening d caught)
-  unfolding afterTake played
-  ends e =
-      let ps = prepares h d (taken h x d) (d .listed) in
-      let cs = catchingUp h d (prepared h x d) in
-      let q : rest ≡ ps ++ (cs ++ (opening d caught ∷ [])) = rw e in
-      begins ∙ ap (played h (taken h x d)) q ∙ played-join h (taken h x d) ps (cs ++ (opening d caught ∷ [])) ∙ played-join h (prepared h x d) cs (opening d caught ∷ [])
+  ends e = begins ∙ ap (played h (taken h x d)) (goes-on (isOk (taken h x d .reply)) e) ∙ sym (afterTake-is h d (taken h x d) refl refl refl)
+    where
+      goes-on : (b : Bool) → b ≡ true → cond b (afterTake h d (taken h x d)) [] ≡ afterTake h d (taken h x d)
+      goes-on b q = rw q
 
 -- ---- the theorem
 

@@ -51,7 +51,7 @@ module _ (h : Shape) (d : Recovery) where
   prepares-over t [] = refl
   prepares-over t (i ∷ is) = prepares-over (prepared t i) is
 
-  prepares-length : (t : Trail) (l : List ℕ) → length (prepares h d t l) ≡ length l
+  pub prepares-length : (t : Trail) (l : List ℕ) → length (prepares h d t l) ≡ length l
   unfolding prepares
   prepares-length t [] = refl
   prepares-length t (i ∷ is) = ap suc (prepares-length (prepared t i) is)
@@ -126,7 +126,7 @@ module _ (h : Shape) (d : Recovery) where
         go true false e = omega arith
         go false y e = omega arith
 
-    copiesTo-length : (t : Trail) → length (copiesTo h d a m b t) ≤ m
+    pub copiesTo-length : (t : Trail) → length (copiesTo h d a m b t) ≤ m
     copiesTo-length t = go (activeAt (serverOf d t) b)
       where
         go : (x : Bool) → length (cond x (copies h d a m b (lacks (serverOf d t) m b) t) []) ≤ m

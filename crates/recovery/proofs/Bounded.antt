@@ -3,12 +3,12 @@
 use mathlib.Core.Path.{_≡_, refl, ap}
 use mathlib.Core.Bool.{Bool, true, false, cond}
 use mathlib.Core.List.{List, [], _∷_}
-use Prim.Native.Nat.{ℕ, suc, _+_, _*_, _≤_, _<_}
+use Prim.Native.Nat.{ℕ, _+_, _*_, _≤_, _<_}
 use native.Mathlib.Omega.{arith}
 use lib.ListN.{length}
 use Rattle.cluster.specs.declared.Shape.{Shape}
 use Rattle.cluster.specs.declared.Server.{Server}
-use Rattle.cluster.specs.State.{serverAt, markAt, activeAt}
+use Rattle.cluster.specs.State.{markAt, activeAt}
 use Rattle.cluster.proofs.Marks.{marks-fit}
 use Rattle.recovery.specs.Recovery.{Recovery, Trail, played, serverOf, prepares, highestKnown, firstAt, allCopies, catchingUp, unlisted}
 use Rattle.recovery.proofs.Steady.{Steady, steady-prepare}

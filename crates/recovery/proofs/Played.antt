@@ -3,17 +3,17 @@
 use mathlib.Core.Path.{_≡_, refl, sym, ap, ap₂, _∙_}
 use mathlib.Core.Bool.{Bool, true, false, cond}
 use mathlib.Core.List.{List, [], _∷_, _++_}
-use Prim.Native.Nat.{ℕ, zero, suc, _+_, _-_, _*_, _≤_, _<_}
+use Prim.Native.Nat.{ℕ, zero, suc, _+_, _-_, _≤_, _<_}
 use native.Mathlib.Numerals.{add-one}
 use native.Mathlib.Omega.{arith}
 use lib.Dec.{ltb}
 use borrow.Author.Tests.{lt-ltb, le-ltb}
-use lib.ListN.{length, drop, getD, length-append, drop-of-length-le}
+use lib.ListN.{length, drop, getD, drop-of-length-le}
 use lib.Seq.{drop-cons}
 use Rattle.cluster.specs.declared.Shape.{Shape}
 use Rattle.cluster.specs.State.{State, activeAt, markAt}
 use Rattle.cluster.specs.Replies.{no, silent}
-use Rattle.cluster.specs.Refusals.{Input, pass, declined, firstOf}
+use Rattle.cluster.specs.Refusals.{pass, declined, firstOf}
 use Rattle.recovery.specs.Recovery.{Recovery, Trail, one, played, taking, preparing, copying, opening, isOk, serverOf, prepares, highestKnown, firstAt, copies, lacks, copiesTo, allCopies, catchingUp, afterTake, fromTake, recoveryRows, begun, callsOf, recovered}
 use Rattle.recovery.proofs.Counts.{played-count, played-join}
 

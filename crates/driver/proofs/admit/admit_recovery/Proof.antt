@@ -3,7 +3,6 @@ use mathlib.Core.Path.{refl, ap}
 use Rattle.checks.specs.Verdicts.{verdictOf}
 use Rattle.checks.specs.Results.{stateOf}
 use Rattle.driver.proofs.Declining.{by-given, by-replica, by-list}
-use native.Mathlib.Omega.{arith}
 use borrow.Author.Needs.{needs}
 use Rattle.driver.proofs.admit.admit_recovery.Statement.{statement}
 use Rattle.driver.proofs.admit.admit_recovery.Tie as tie

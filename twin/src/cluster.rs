@@ -1,10 +1,11 @@
-//! A cluster and its twelve calls, on any state that is handed in.
+//! A cluster, its twelve calls and the recovery that makes some of them, on any state that is handed in.
 
 mod call;
 mod checks;
 mod export;
 mod issue;
 mod limits;
+mod recovery;
 mod register_calls;
 mod replica_calls;
 mod reply;
@@ -12,5 +13,5 @@ mod state;
 
 pub use call::{Call, Message, Request};
 pub use limits::{Limits, BOOKING, FIRST_BOOKING_CLIENT, GATE};
-pub use reply::{first_row, Answer, Refusal, Reply, BY_RECEIVER, FILES_ROW, ORDER};
+pub use reply::{first_row, Answer, Refusal, Reply, BY_RECEIVER, FILES_ROW, LIST_ROW, ORDER};
 pub use state::{Cluster, Entry, Phase, Records, Register, Server, Shape, Standing, HELD, SERVERS};

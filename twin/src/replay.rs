@@ -1,5 +1,5 @@
-//! A run of all twelve calls for the proved journal: lines that hand in state or make a call, and
-//! what this implementation replies.
+//! A run of all twelve calls and of recoveries for the proved journal: lines that hand in state, make a
+//! call or a recovery, and what this implementation replies.
 //!
 //! A line is a command word and its fields with a tab before each; numbers in base ten, bytes as
 //! capital hexadecimal digits. A line that hands in state prints nothing.
@@ -37,6 +37,16 @@
 //! 15), or silent; behind that the 72 bytes that read answers; then three check sums (CRC-32, 8
 //! digits): of the records (see `sums`), of the media and of the lock tables as lent; and behind an
 //! export those of data and index file. A line that fits no form prints bad.
+//!
+//! | command | fields | what it makes |
+//! |---|---|---|
+//! | recover | server, length, index, LISTED, FATES | a recovery (document 02, No. 9) |
+//!
+//! `length` is that at which the slice of given bytes is lent, at most 2,880 (72 for each of 40 fates). The
+//! bytes of the last given line are those of the fate with this `index`, from 0 to 39, as far as they are
+//! lent; all others are 0. LISTED are the listed replicas, none to 10, and FATES the codes of the fates (see
+//! `Fate::code`), none to 40: each number as eight big-endian bytes, 16 digits, one behind the other. It prints
+//! what a call does, with the count of calls behind the reply.
 
 mod calls;
 mod counts;
@@ -50,6 +60,12 @@ mod locks;
 mod names;
 mod random_states;
 mod recorder;
+mod recoveries;
+mod recovery_counts;
+mod recovery_fates;
+mod recovery_lists;
+mod recovery_states;
+mod recovery_trace;
 mod scenes;
 mod sequences;
 mod state_lines;
@@ -61,6 +77,7 @@ use crate::random::Random;
 pub use counts::{Counts, CALLS};
 pub use names::UNSENT;
 pub use names::{AMOUNTS, BESIDE, CLIENTS, ENDS, ESTIMATES, FATES, GIVEN, INTERVALS, SEQUENCES};
+pub use recovery_counts::{FEATURES, PASSED, REPLIES, STEPS};
 
 /// The stored run: its lines, what they print, and what it meets.
 pub struct Run {
@@ -70,7 +87,7 @@ pub struct Run {
 }
 
 /// The seed of the stored run.
-const SEED: u64 = 1_008;
+const SEED: u64 = 1_009;
 
 /// The stored run.
 pub fn run() -> Run {

@@ -1,7 +1,7 @@
 //! Calls and states to try: lists of calls that get somewhere, scenes with faults, issue around the
 //! interval, around the client's mark and around its limits, send and issue around what is held, exports
 //! with files of any length, imports of pairs whole and spoilt, old media, pairs of version 1, records
-//! with any fields, header 0 among them, places near valid ones, random states.
+//! with any fields, header 0 among them, places near valid ones, recoveries, random states.
 
 pub mod caller;
 pub mod checkpoint;
@@ -15,6 +15,9 @@ pub mod in_flight;
 pub mod limits;
 pub mod old_media;
 pub mod records;
+pub mod recoveries;
+pub mod recovery_faults;
+pub mod recovery_rows;
 pub mod scene;
 pub mod states;
 pub mod unfit;

@@ -1,13 +1,14 @@
 //! The stored run of the replay program is what this implementation gives, and it meets every call,
 //! refusal, fate and kind of interval, gates and booking clients on both sides of their limits, locks on
 //! both sides of the client's mark, every end of an exported log, every number of records in flight,
-//! sequences on both sides of what 32 bits hold, and header 0 in requests and in records.
+//! sequences on both sides of what 32 bits hold, header 0 in requests and in records, and recoveries with every
+//! reply, every fate at every kind of call, and every way to pass over a replica.
 
 mod stored;
 
 use twin::cluster::{first_row, FILES_ROW, ORDER};
 use twin::replay::{self, AMOUNTS, CALLS, CLIENTS, ENDS, ESTIMATES, FATES, INTERVALS, UNSENT};
-use twin::replay::{BESIDE, GIVEN, SEQUENCES};
+use twin::replay::{BESIDE, FEATURES, GIVEN, PASSED, REPLIES, SEQUENCES, STEPS};
 use twin::tries::headers::USES;
 
 /// Calls without a message, and those whose message goes to the register.
@@ -21,6 +22,8 @@ const DECLINED: [(u64, &[&str]); ORDER.len()] = [
     (3, CALLS.split_last().expect("reassign names no server").1),
     (4, &["prepare", "copy", "trim", "send", "note", "read", "export"]),
     (5, &["take", "prepare", "copy", "trim", "open", "issue", "send", "note", "read", "export"]),
+    // The driver of recoveries alone.
+    (29, &[]),
     (6, &["take", "prepare", "copy", "trim", "open", "send", "note", "read", "export"]),
     (7, &["copy", "trim", "send", "note", "read", "export"]),
     (8, &["trim", "open"]),
@@ -189,10 +192,68 @@ fn header_0_is_declined_in_requests_alone() {
     assert!(met.iter().all(|&count| count > 5), "{met:?}");
 }
 
+/// What a recovery replies, how many calls it made, and of each R lists of every length.
+#[test]
+fn recoveries_end_in_every_way() {
+    let counts = replay::run().counts;
+    let recoveries = counts.recoveries();
+    assert!((300..=600).contains(&recoveries.all()));
+    for name in REPLIES {
+        assert!(recoveries.replied(name) > 3, "{name}");
+    }
+    assert!(recoveries.replied("ok") > recoveries.all() / 2);
+    let made = recoveries.counts();
+    // A take alone, or with a prepare and an open.
+    assert!((0..=14).all(|count| made.contains(&count) != (count == 2)), "{made:?}");
+    assert!(made.last() > Some(&30), "{made:?}");
+    for replicas in [1, 3, 5, 7] {
+        for count in 1..=replicas as usize {
+            assert!(recoveries.listed(replicas, count) > 1, "R = {replicas}, {count} listed");
+        }
+    }
+}
+
+/// Answered, lost, with the answer lost, and cut at writes 0, 1 and 2: take, prepare, copy and open. A prepare
+/// also at later ones, of which it makes more, and a prepare or a copy at the greatest that a code has.
+#[test]
+fn every_call_of_a_recovery_has_every_fate() {
+    let counts = replay::run().counts;
+    let recoveries = counts.recoveries();
+    for (step, fate) in STEPS.iter().flat_map(|step| FATES.map(|fate| (step, fate))) {
+        let writes = if fate.starts_with("cut") { 0..=2 } else { 0..=0 };
+        for write in writes {
+            assert!(recoveries.fate(step, fate, write) > 0, "{step}, {fate} {write}");
+        }
+    }
+    for (fate, write) in FATES[3..].iter().flat_map(|fate| [3, 4].map(|write| (fate, write))) {
+        assert!(recoveries.fate("prepare", fate, write) > 0, "{fate} {write}");
+    }
+    let greatest = (u64::MAX - 3) / 3;
+    assert!(recoveries.fate("copy", "cut old", greatest) > 0);
+    assert!(recoveries.fate("prepare", "cut torn", greatest - 1) > 0);
+}
+
+/// For each reason that there is; and what else there is to a recovery, and comes after one.
+#[test]
+fn recoveries_pass_over_replicas_and_go_on() {
+    let counts = replay::run().counts;
+    let recoveries = counts.recoveries();
+    for name in PASSED {
+        assert!(recoveries.passed(name) > 5, "{name}");
+    }
+    for name in FEATURES {
+        assert!(recoveries.met(name) > 0, "{name}");
+    }
+    let often = ["not lowest", "source shows", "above majority", "jump", "past highest"];
+    for name in often.into_iter().chain(["truncated", "restart"]) {
+        assert!(recoveries.met(name) > 10, "{name}");
+    }
+}
+
 #[test]
 fn lines_and_files_are_small() {
     let run = replay::run();
-    assert!(run.input.len() + run.output.len() < 760_000);
+    assert!(run.input.len() + run.output.len() < 900_000);
     assert!(run.input.lines().all(|line| line.len() <= 2_000));
     assert!(run.input.is_ascii() && run.input.ends_with('\n'));
     assert!((3_000..=6_500).contains(&run.counts.calls()));

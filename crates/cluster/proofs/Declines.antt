@@ -90,12 +90,12 @@ Statement = (h : Shape) (x : State) (p : Input) → Declines h x p
 
 -- ---- the first row of a list that holds
 
-none-of : (ws : List Row) → NoneHolds ws → firstOf ws ≡ pass
+pub none-of : (ws : List Row) → NoneHolds ws → firstOf ws ≡ pass
 unfolding firstOf
 none-of [] e = refl
 none-of (w ∷ ws) e = rw (e 0) (none-of ws (λ i. e (suc i)))
 
-first-of : (ws : List Row) (i : ℕ) → First ws i → firstOf ws ≡ declined (rowAt ws i .number) (rowAt ws i .values)
+pub first-of : (ws : List Row) (i : ℕ) → First ws i → firstOf ws ≡ declined (rowAt ws i .number) (rowAt ws i .values)
 unfolding firstOf
 first-of [] i f = absurd (false≢true (f .holds))
 first-of (w ∷ ws) zero f = rw (f .holds)
@@ -103,7 +103,7 @@ first-of (w ∷ ws) (suc i) f =
     rw (f .none-before 0 (omega arith))
     (first-of ws i (record { holds = f .holds; none-before = λ k l. f .none-before (suc k) (omega arith) }))
 
-first-or-none : (ws : List Row) → ((i : ℕ) × First ws i) ⊎ NoneHolds ws
+pub first-or-none : (ws : List Row) → ((i : ℕ) × First ws i) ⊎ NoneHolds ws
 first-or-none [] = inr (λ i. refl)
 first-or-none (w ∷ ws) = go (w .holds) refl (first-or-none ws)
   where

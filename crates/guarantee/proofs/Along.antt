@@ -74,11 +74,11 @@ counted-tie h x H σ S =
     record { R = S .R; Q = S .Q; register = S .register; replicas = S .replicas; servers = S .servers; sessions = S .sessions }
 
 module _ (h : Shape) (m : Moment) (e : Element) where
-  next-declined : Refused h (m .state) (e .input) → next h m e ≡ record { state = m .state; history = counted (m .history) }
+  pub next-declined : Refused h (m .state) (e .input) → next h m e ≡ record { state = m .state; history = counted (m .history) }
   unfolding next heard
   next-declined q = rw (q .result)
 
-  next-passed : Passes h (m .state) (e .input)
+  pub next-passed : Passes h (m .state) (e .input)
       → let r = effect h (m .state) (e .input) (e .input .call) in
       next h m e ≡ record { state = r .state; history = counted (told h (m .state) e r (m .history) (e .input .call)) }
   unfolding next

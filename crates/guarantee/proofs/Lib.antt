@@ -27,7 +27,15 @@
 -- Beside the theorem: Readable, every list of calls that fit is one of its lists; Whole, what it comes to for two sessions; Once, nothing in a history
 -- is written over; Interval, a session issues K IDs at most; InFlight, what a server holds is what its session issued; Readers, whoever is declined by 15
 -- has something left to read or to wait for; Running, the states that the running calls leave are those of the list. The crate guarantee_example works
--- three lists out.
+-- four lists out.
+--
+-- Over lists with recoveries (specs/Recoveries.antt):
+--   Recoveries  the theorem: a list of items is a list of calls that are covered, so what is shown of lists of calls holds of lists of items
+--   Items       what items leave: the state equation of a recovery; the calls that a list of items stands for; calls alone
+--   Driven      the calls of a recovery fit, and none but the last opens a session
+--   Between     what they add to the history
+--   NoMore      of a recovery no more is asked than of its calls
+--   ReadableItems, AfterItems  Readable, and Whole to Readers, of lists of items; Running has them too
 -- Assumes nothing.
 pub mod Ties
 pub mod Sessions
@@ -59,3 +67,10 @@ pub mod Once
 pub mod Interval
 pub mod InFlight
 pub mod Readers
+pub mod Driven
+pub mod Items
+pub mod Between
+pub mod Recoveries
+pub mod NoMore
+pub mod ReadableItems
+pub mod AfterItems

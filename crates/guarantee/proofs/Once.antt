@@ -103,7 +103,7 @@ module _ (h : Shape) (x : State) (H : History) (σ : protocol.State) (S : Sim h 
           let m : serverAt (x .records) s .issued + 1 ≡ n = cc (e, a) in
           rw m at (unissued q p)
 
-new : (h : Shape) (x : State) (H : History) (σ : protocol.State) → Sim h x H σ → Inv σ → (p : Input) → New h x H p
+pub new : (h : Shape) (x : State) (H : History) (σ : protocol.State) → Sim h x H σ → Inv σ → (p : Input) → New h x H p
 new h x H σ S I p =
     record {
       opens = λ s f e c. opened-once h x H σ S I (p .content) (p .locks) (p .given) (p .stamp) (p .files) s f (as-open s f e c);

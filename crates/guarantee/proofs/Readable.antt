@@ -69,7 +69,7 @@ opened-or-not h x s f b e = rw e
 
 module _ (h : Shape) (range : InRange h) (x : State) (H : History) (σ : protocol.State) (S : Sim h x H σ) where
   -- replica a may be read
-  abbrev Reads : Input → ℕ → Type 0
+  abbrev pub Reads : Input → ℕ → Type 0
   Reads p a = (s : ℕ) (f : Fate) → p .call ≡ call.Open s f → changed (x .records .register) (after h x p) ≡ true
       → (a < h .replicas) × (entryAt (after h x p .entries) a .session ≡ H .current s)
 
@@ -134,7 +134,7 @@ module _ (h : Shape) (range : InRange h) (x : State) (H : History) (σ : protoco
   of-call (call.Stop s) content locks given stamp files = other _ (λ t u e. let z : _≡_ {A = ℕ} 0 1 = cc in omega arith)
   of-call call.Reassign content locks given stamp files = other _ (λ t u e. let z : _≡_ {A = ℕ} 0 1 = cc in omega arith)
 
-  reads : (p : Input) → (a : ℕ) × Reads p a
+  pub reads : (p : Input) → (a : ℕ) × Reads p a
   reads p = of-call (p .call) (p .content) (p .locks) (p .given) (p .stamp) (p .files)
 
 -- ================ a list of calls

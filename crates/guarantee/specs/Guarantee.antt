@@ -30,13 +30,15 @@
 -- whom." Each such case is a list: issues, sends to any members in any order under any fate, then a stop, or calls of another server while this one still
 -- sends. The statement is about every list, and no conclusion counts what is in flight (protocol specs/Events.antt says why the proof need not).
 --
+-- Document 02, No. 9: a list "may hold" a recovery by a driver, "as the calls it makes". Recoveries.antt has the same conclusions over such lists.
+--
 -- Each list of calls whose arguments fit is one of these lists: proofs/Readable.antt `readable`. With (1) and (2): all that the earlier of two
 -- opened sessions ever acknowledges is in the later one's log, the same bytes (proofs/Whole.antt `whole`). Nothing in a history is written over: a
 -- session is opened once and issues an ID once (proofs/Once.antt `once`), and none more than K above its starting mark (proofs/Interval.antt
 -- `interval`). What an open server holds of an ID is what its session issued under it (proofs/InFlight.antt `in-flight`). A client that has read all that
 -- is issued is not declined by 15, and one that has read all that is acknowledged only for a record in flight (proofs/Readers.antt `readers`).
--- Running `apply` over a list from `fresh::start` leaves the states of `along` (proofs/Running.antt `runs`). The crate guarantee_example works three lists
--- out, one of them with a server that is stopped while its records have reached different replicas.
+-- Running `apply` over a list from `fresh::start` leaves the states of `along` (proofs/Running.antt `runs`). The crate guarantee_example works four lists
+-- out, one of them with a server that is stopped while its records have reached different replicas, one with three recoveries.
 --
 -- How to read it, if you do not know the notation:
 --   x : A                  x is of the type A; ℕ are the numbers from 0, Bool is true or false, Type 0 is what is to be shown

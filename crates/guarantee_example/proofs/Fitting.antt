@@ -1,19 +1,23 @@
 -- The arguments of the lists' calls fit.
 -- Assumes nothing.
 use mathlib.Core.Path.{_≡_, refl, sym}
-use mathlib.Core.Bool.{true≢false}
+use mathlib.Core.Bool.{true, true≢false}
 use mathlib.Core.List.{List, [], _∷_, _++_}
 use Prim.Native.Nat.{ℕ, _<_, _^_}
 use native.Mathlib.Omega.{arith}
 use lib.Dec.{lit<}
+use lib.ListN.{length}
 use Rattle.octets.specs.Octets.{Bytes}
 use Rattle.fate.specs.declared.Fate.{Fate}
 use Rattle.fate.specs.declared.Fate.the-variants.{Answered}
+use Rattle.storage.specs.Sizes.{placeSize}
 use Rattle.cluster.specs.declared.Request.{Request}
 use Rattle.cluster.specs.declared.Call.{Call}
 use Rattle.cluster.specs.declared.Call.the-variants as call
+use Rattle.cluster.specs.Effects.{noBytes}
+use Rattle.recovery.specs.Recovery.{bare}
 use Rattle.guarantee.specs.History.{Element}
-use Rattle.guarantee.specs.Guarantee.{Fits}
+use Rattle.guarantee.specs.Guarantee.{messages, Fits}
 use Rattle.guarantee_example.specs.Elements.{plain, request, asking, gate, issuing}
 use Rattle.guarantee_example.proofs.Outline.{FitEach}
 
@@ -50,6 +54,22 @@ copy s a b = plain-fits (call.Copy s a b Answered) (λ t q e. let z : _≡_ {A =
 
 pub stop : (s : ℕ) → Fits (plain (call.Stop s) .input)
 stop s = plain-fits (call.Stop s) (λ t q e. let z : _≡_ {A = ℕ} 0 1 = cc in omega arith)
+
+-- a recovery's calls
+bare-fits : (c : Call) (given : List ℕ) → (messages c ≡ true → length given ≡ placeSize) → ((s : ℕ) (q : Request) → c ≡ call.Issue s q → ⊥) → Fits (bare c given)
+bare-fits c given l n = record { given = l; content = tt; request = λ s q e. absurd (n s q e) }
+
+pub bare-take : (s : ℕ) → Fits (bare (call.Take s Answered) [])
+bare-take s = bare-fits (call.Take s Answered) [] (λ m. absurd (true≢false (sym m))) (λ t q e. let z : _≡_ {A = ℕ} 0 1 = cc in omega arith)
+
+pub bare-prepare : (s i : ℕ) (f : Fate) → Fits (bare (call.Prepare s i f) noBytes)
+bare-prepare s i f = bare-fits (call.Prepare s i f) noBytes (λ m. refl) (λ t q e. let z : _≡_ {A = ℕ} 0 1 = cc in omega arith)
+
+pub bare-copy : (s a b : ℕ) (f : Fate) → Fits (bare (call.Copy s a b f) noBytes)
+bare-copy s a b f = bare-fits (call.Copy s a b f) noBytes (λ m. refl) (λ t q e. let z : _≡_ {A = ℕ} 0 1 = cc in omega arith)
+
+pub bare-open : (s : ℕ) → Fits (bare (call.Open s Answered) [])
+bare-open s = bare-fits (call.Open s Answered) [] (λ m. absurd (true≢false (sym m))) (λ t q e. let z : _≡_ {A = ℕ} 0 1 = cc in omega arith)
 
 pub fit-then : (es fs : List Element) → FitEach es → FitEach fs → FitEach (es ++ fs)
 fit-then [] fs a b = b

@@ -2,3 +2,4 @@ pub mod Elements
 pub mod Example
 pub mod Checkpoint
 pub mod InFlight
+pub mod Recovered

@@ -43,29 +43,29 @@ use Rattle.recovery.proofs.Opening.{Odd, odd-replicas, opens, is-open}
 
 -- ---- where the calls of a recovery that isn't declined end
 
-prepares-length : (h : Shape) (d : Recovery) (t : Trail) (is : List ℕ) → length (prepares h d t is) ≡ length is
+pub prepares-length : (h : Shape) (d : Recovery) (t : Trail) (is : List ℕ) → length (prepares h d t is) ≡ length is
 unfolding prepares
 prepares-length h d t [] = refl
 prepares-length h d t (i ∷ is) = ap suc (prepares-length h d _ is)
 
 module _ (h : Shape) (x : State) (d : Recovery) (admitted : firstOf (recoveryRows h x d) ≡ pass) where
   -- the calls behind the take
-  abbrev rest : List Input
+  abbrev pub rest : List Input
   rest = cond (isOk (taken h x d .reply)) (afterTake h d (taken h x d)) []
 
-  begins : recovered h x d ≡ played h (taken h x d) rest
+  pub begins : recovered h x d ≡ played h (taken h x d) rest
   unfolding recovered callsOf fromTake played
   begins = rw admitted
 
-  first-call : 0 < recovered h x d .count
+  pub first-call : 0 < recovered h x d .count
   unfolding begun
   first-call = subst⁻¹ (λ (u : Trail). 0 < u .count) begins (omega (arith, played-more h (taken h x d) rest))
 
   -- where the take is ok
-  abbrev caught : Trail
+  abbrev pub caught : Trail
   caught = played h (prepared h x d) (catchingUp h d (prepared h x d))
 
-  ends : isOk (taken h x d .reply) ≡ true → recovered h x d ≡ one h caught (opening d caught)
+  pub ends : isOk (taken h x d .reply) ≡ true → recovered h x d ≡ one h caught (opening d caught)
   unfolding afterTake played
   ends e =
       let ps = prepares h d (taken h x d) (d .listed) in

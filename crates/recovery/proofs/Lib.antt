@@ -5,6 +5,7 @@ pub mod Counts
 pub mod Played
 pub mod Own
 pub mod Staying
+pub mod Turns
 pub mod Listed
 pub mod Highest
 pub mod Distinct
@@ -13,3 +14,5 @@ pub mod Preparing
 pub mod Copying
 pub mod Opening
 pub mod Arrives
+pub mod Bound
+pub mod Refused

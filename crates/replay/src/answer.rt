@@ -7,8 +7,10 @@ use crate::export;
 use crate::forms;
 use crate::forms::CALLS;
 use crate::forms::EXPORT;
+use crate::forms::RECOVER;
 use crate::lent;
 use crate::perform;
+use crate::recoveries;
 use cluster::Call;
 use replay_state::cells::Cells;
 use run_lines::print;
@@ -19,6 +21,9 @@ pub fn fits(line: &[u8], m: &mut [u8; MEDIA], tables: &mut [u64; TABLES], w: &mu
     let kind = forms::kind(line);
     if kind == EXPORT {
         return export::fits(line, m, tables, w);
+    }
+    if kind == RECOVER {
+        return recoveries::fits(line, m, tables, w);
     }
     if CALLS <= kind {
         return lent::hand_in(line, kind, m, tables, w);

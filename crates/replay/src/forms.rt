@@ -3,7 +3,8 @@
 //   11 shape, 12 register, 13 entry, 14 server, 15 handed, 16 replica: numbers that are held; 17 lend; 18 locks
 //   19 held, 20 given, 21 data, 22 media: their last field is BYTES; 23 table; 24 fresh
 //   25 export: its last field is BYTES, its key
-//   26 for a line that fits no form
+//   26 recover: its last two fields are BYTES
+//   27 for a line that fits no form
 use replay_state::fields;
 use text::line;
 
@@ -11,7 +12,9 @@ pub const CALLS: u64 = 11;
 
 pub const EXPORT: u64 = 25;
 
-const NONE: u64 = 26;
+pub const RECOVER: u64 = 26;
+
+const NONE: u64 = 27;
 
 // Which of the words this is, from 0; how many there are where it is none.
 fn find(words: &[u8], word: &[u8]) -> u64 {
@@ -36,7 +39,7 @@ fn count(kind: u64) -> usize {
         12 | 17 | 22 => 3,
         11 | 19 | 23 | 24 => 4,
         0 | 4 | 13 | 16 => 5,
-        1 | 3 | 5 | 6 | 15 => 6,
+        1 | 3 | 5 | 6 | 15 | 26 => 6,
         2 | 7 => 7,
         25 => 10,
         _ => 8,
@@ -47,6 +50,7 @@ fn count(kind: u64) -> usize {
 fn others(kind: u64) -> usize {
     match kind {
         19..=22 | 25 => 2,
+        26 => 3,
         _ => 1,
     }
 }
@@ -54,7 +58,7 @@ fn others(kind: u64) -> usize {
 // The kind of a line.
 pub fn kind(line: &[u8]) -> u64 {
     let k = find(
-        b"take\tprepare\tcopy\ttrim\topen\tsend\tnote\tread\tissue\tstop\treassign\tshape\tregister\tentry\tserver\thanded\treplica\tlend\tlocks\theld\tgiven\tdata\tmedia\ttable\tfresh\texport",
+        b"take\tprepare\tcopy\ttrim\topen\tsend\tnote\tread\tissue\tstop\treassign\tshape\tregister\tentry\tserver\thanded\treplica\tlend\tlocks\theld\tgiven\tdata\tmedia\ttable\tfresh\texport\trecover",
         line::first(line),
     );
     if k == 18 {

@@ -1,4 +1,4 @@
-// Drives the twelve calls through the proved journal. Standard input has a line a command: it hands in a part of the state, which
+// Drives the twelve calls and recoveries through the proved journal. Standard input has a line a command: it hands in a part of the state, which
 // prints nothing, or makes a call, whose reply and check sums of all state are a line of standard output; `bad` is printed where a
 // line fits no form. The lines, their forms and the output that stdout must equal come from the other implementation
 // (twin/src/replay.rs; its replay writes both files).
@@ -14,6 +14,7 @@ mod export;
 mod forms;
 mod lent;
 mod perform;
+mod recoveries;
 
 // The longest line that is answered.
 const LIMIT: usize = 2000;

@@ -30,7 +30,7 @@ fn print_refusal(why: Refusal) {
     }
 }
 
-fn print_answer(a: Answer) {
+pub fn print_answer(a: Answer) {
     match a {
         Answer::Done => print::text(b"ok"),
         Answer::Value(v) => {
@@ -57,7 +57,7 @@ pub fn print_sum(sum: u32) {
     print::digits(&out);
 }
 
-fn least(a: u64, b: usize) -> usize
+pub fn least(a: u64, b: usize) -> usize
     ensures { λ r. ⌜ r ≤ b ⌝ }
 {
     if a < (b as u64) { a as usize } else { b }
@@ -70,7 +70,7 @@ fn locks(w: &Cells) -> &[u64] {
     &all[LOCKS..e]
 }
 
-fn shape(w: &Cells) -> Shape {
+pub fn shape(w: &Cells) -> Shape {
     Shape {
         replicas: cells::at(w, SHAPE),
         places: cells::at(w, SHAPE + 1),
@@ -122,7 +122,7 @@ fn keep(o: Outcome, w: &mut Cells) {
     print_bytes(&bytes);
 }
 
-fn print_sums(m: &[u8], tables: &[u64], w: &Cells) {
+pub fn print_sums(m: &[u8], tables: &[u64], w: &Cells) {
     print_sum(sums::of_records(w));
     print_sum(sums::of_bytes(m));
     print_sum(sums::of(tables));

@@ -28,6 +28,8 @@ pub enum Refusal {
     /// Or copy names one twice.
     NoSuchReplica,
     OtherPhase,
+    /// The list of a recovery "repeats a replica or names none" (document 02, No. 9).
+    UnfitList,
     /// A cut that cannot be, or torn bytes that pass as a slot or place.
     UnfitFate,
     /// Not known, no member, or dropped.
@@ -65,14 +67,17 @@ pub enum Refusal {
 
 /// The rows of the list, by their numbers, in the order in which they are checked. 1 has a second row:
 /// "for an export's two files this is checked after 20".
-pub const ORDER: [u64; 25] =
-    [1, 2, 3, 4, 5, 6, 7, 8, 9, 10, 11, 12, 28, 13, 14, 23, 15, 16, 17, 18, 19, 20, 1, 21, 22];
+pub const ORDER: [u64; 26] =
+    [1, 2, 3, 4, 5, 29, 6, 7, 8, 9, 10, 11, 12, 28, 13, 14, 23, 15, 16, 17, 18, 19, 20, 1, 21, 22];
+
+/// The row of a recovery's list. No call has it: the driver declines "only by 1 to 5 and 29".
+pub const LIST_ROW: usize = 5;
 
 /// The row of the lengths of export's files.
-pub const FILES_ROW: usize = 22;
+pub const FILES_ROW: usize = 23;
 
 /// The rows from that of 18 on: seen only if the message is answered.
-pub const BY_RECEIVER: RangeFrom<usize> = 19..;
+pub const BY_RECEIVER: RangeFrom<usize> = 20..;
 
 impl Refusal {
     /// Its number in document 01's list, which document 02 goes on with from 23.
@@ -83,6 +88,7 @@ impl Refusal {
             Refusal::NoSuchServer => 3,
             Refusal::NoSuchReplica => 4,
             Refusal::OtherPhase => 5,
+            Refusal::UnfitList => 29,
             Refusal::UnfitFate => 6,
             Refusal::ReplicaOut => 7,
             Refusal::Undecided => 8,

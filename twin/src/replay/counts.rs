@@ -1,6 +1,6 @@
 //! What a run meets: replies of each call, fates, intervals, what gates and booking clients ask for, locks
 //! around the client's mark, ends of exported logs, records in flight, sequences, given bytes, header 0 in
-//! requests and in records.
+//! requests and in records; and recoveries.
 
 use std::collections::BTreeMap;
 use std::fmt;
@@ -9,9 +9,11 @@ use super::names::{amount_name, end_name, estimate_name, fate_name, fate_of, int
 use super::names::{beside_name, zero_name, BESIDE, GIVEN, SEQUENCES};
 use super::names::{given_name, in_flight, sent_index, sequence_name, unsent_name};
 use super::names::{AMOUNTS, CLIENTS, ENDS, ESTIMATES, FATES, INTERVALS, UNSENT};
+use super::recovery_counts::Recoveries;
 use super::texts::word;
 use crate::cluster::{Answer, Call, Cluster, Refusal, Reply, HELD, ORDER};
 use crate::tries::headers::{use_of_zero, USES};
+use crate::tries::recoveries::Recovery;
 
 pub const CALLS: [&str; 12] = [
     "take", "prepare", "copy", "trim", "open", "issue", "send", "note", "read", "export", "stop",
@@ -55,6 +57,7 @@ pub struct Counts {
     due: bool,
     /// Sessions opened after that.
     forced: u64,
+    recoveries: Recoveries,
 }
 
 impl Counts {
@@ -75,6 +78,22 @@ impl Counts {
         }
         self.add_names(cluster, call, reply);
         self.add_change(call, reply);
+        self.recoveries.add_call(cluster, call, reply);
+    }
+
+    /// Adds a recovery on this cluster, which is as it found it. The calls that it makes are no calls of the
+    /// run: these are counted with the recovery alone.
+    pub(super) fn add_recovery(
+        &mut self,
+        cluster: &Cluster,
+        recovery: &Recovery,
+        end: (Reply, u64),
+        after: &Cluster,
+    ) {
+        self.recoveries.add(cluster, recovery, end, after);
+        if matches!(end, (Ok(Answer::Number(_)), _)) {
+            self.add_opening();
+        }
     }
 
     /// What only one of the calls is counted as.
@@ -117,17 +136,20 @@ impl Counts {
     fn add_change(&mut self, call: &Call, reply: &Reply) {
         match (call, reply) {
             (_, Err(Refusal::CheckpointDue)) => self.due = true,
-            (Call::Open { .. }, Ok(Answer::Number(_))) => {
-                self.forced += u64::from(self.due);
-                self.due = false;
-            }
+            (Call::Open { .. }, Ok(Answer::Number(_))) => self.add_opening(),
             _ => {}
         }
+    }
+
+    fn add_opening(&mut self) {
+        self.forced += u64::from(self.due);
+        self.due = false;
     }
 
     /// The next call is on another cluster.
     pub(super) fn add_state(&mut self) {
         self.due = false;
+        self.recoveries.add_state();
     }
 
     pub fn ok(&self, call: &str) -> u64 {
@@ -228,6 +250,10 @@ impl Counts {
         self.forced
     }
 
+    pub fn recoveries(&self) -> &Recoveries {
+        &self.recoveries
+    }
+
     pub fn calls(&self) -> u64 {
         self.ok.values().chain(self.silent.values()).chain(self.refused.values()).sum()
     }
@@ -235,7 +261,8 @@ impl Counts {
 
 /// A table of replies by call, in which 1 stands once more behind 20 (the lengths of export's files); one
 /// of fates and one of K by call, one of what clients ask for, one of estimates, one of ends, one of
-/// sequences, one of given bytes, three of header 0, what was in flight and held, and the writes that were cut.
+/// sequences, one of given bytes, three of header 0, what was in flight and held, and the writes that were cut;
+/// then the recoveries.
 impl fmt::Display for Counts {
     fn fmt(&self, f: &mut fmt::Formatter<'_>) -> fmt::Result {
         write!(f, "{:9}{:>6}{:>7}", "call", "ok", "silent")?;
@@ -264,7 +291,7 @@ impl fmt::Display for Counts {
         let cuts = &mut FATES[3..].iter();
         cuts.try_for_each(|fate| write!(f, "\n{fate} at writes {:?}", self.writes(fate)))?;
         write!(f, "\n{} sessions opened after number 23", self.forced())?;
-        write!(f, "\n{} calls\n", self.calls())
+        write!(f, "\n{} calls\n{}\n", self.calls(), self.recoveries)
     }
 }
 

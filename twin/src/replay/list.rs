@@ -2,7 +2,8 @@
 
 use super::recorder::Recorder;
 use super::{
-    exports, header_zero, in_flight, limits, locks, random_states, scenes, sequences, Run,
+    exports, header_zero, in_flight, limits, locks, random_states, recoveries, recovery_fates,
+    recovery_lists, recovery_states, scenes, sequences, Run,
 };
 use crate::cluster::{Call, Cluster, Shape};
 use crate::fate::Fate;
@@ -10,6 +11,7 @@ use crate::hex;
 use crate::random::Random;
 use crate::tries::caller::Caller;
 use crate::tries::headers::with_headers;
+use crate::tries::recoveries::draw_recovery;
 use crate::tries::scene::record_bytes;
 use crate::tries::useful;
 
@@ -32,9 +34,13 @@ const SHAPES: [(u64, u64, u64); 12] = [
 /// Lists of calls from a fresh cluster of each shape.
 const LISTS: u64 = 3;
 
+/// One take in this many is that of a recovery.
+const RECOVERIES: u64 = 5;
+
 pub fn replay(random: &mut Random) -> Run {
     let mut recorder = Recorder::new();
     bad_lines(&mut recorder);
+    recoveries::bad_lines(&mut recorder);
     any_interval(&mut recorder);
     locks::list(&mut recorder);
     exports::list(&mut recorder);
@@ -42,6 +48,10 @@ pub fn replay(random: &mut Random) -> Run {
     limits::list(&mut recorder);
     sequences::list(&mut recorder);
     header_zero::list(&mut recorder);
+    recoveries::list(&mut recorder);
+    recovery_fates::replay(&mut recorder);
+    recovery_lists::replay(&mut recorder, random);
+    recovery_states::replay(&mut recorder);
     limits::replay(&mut recorder);
     scenes::replay(&mut recorder, random);
     in_flight::replay(&mut recorder);
@@ -137,7 +147,20 @@ fn list(recorder: &mut Recorder, random: &mut Random, shape: Shape, begun_before
                 }
             }));
         }
-        let call = useful::next_call(random, &caller, recorder.cluster());
-        let _ = recorder.call(&call);
+        next(recorder, random, &caller);
+    }
+}
+
+/// A call that gets somewhere, or in place of some takes a recovery.
+pub fn next(recorder: &mut Recorder, random: &mut Random, caller: &Caller) {
+    let call = useful::next_call(random, caller, recorder.cluster());
+    match call {
+        Call::Take { server, .. } if random.chance(RECOVERIES) => {
+            let recovery = draw_recovery(random, caller, recorder.cluster(), server);
+            let _ = recorder.recover(&recovery);
+        }
+        _ => {
+            let _ = recorder.call(&call);
+        }
     }
 }

@@ -1,5 +1,6 @@
 //! Random states that are handed in.
 
+use super::list;
 use super::recorder::Recorder;
 use crate::cluster::{Cluster, Phase, Records, Shape, HELD};
 use crate::medium;
@@ -7,7 +8,6 @@ use crate::random::Random;
 use crate::tries::caller::Caller;
 use crate::tries::scene::{record_bytes, SERVER};
 use crate::tries::states::Draw;
-use crate::tries::useful;
 
 /// Random states that are handed in, by N, and calls made on each.
 const STATES: [(u64, u64); 3] = [(3, 24), (5, 20), (12, 6)];
@@ -24,15 +24,21 @@ pub fn replay(recorder: &mut Recorder, random: &mut Random) {
     }
 }
 
-/// Random calls, and more of those that bring a cluster on.
+/// Random calls and recoveries, and more of those that bring a cluster on.
 fn calls_on_state(recorder: &mut Recorder, random: &mut Random, places: u64) {
     let caller = Caller::new(random);
     for _ in 0..CALLS_ON_STATE {
-        let call = match random.below(3) {
-            0 => Draw { random, places }.call(recorder.cluster()),
-            _ => useful::next_call(random, &caller, recorder.cluster()),
-        };
-        let _ = recorder.call(&call);
+        match random.below(15) {
+            0 => {
+                let recovery = Draw { random, places }.recovery(recorder.cluster());
+                let _ = recorder.recover(&recovery);
+            }
+            1..=5 => {
+                let call = Draw { random, places }.call(recorder.cluster());
+                let _ = recorder.call(&call);
+            }
+            _ => list::next(recorder, random, &caller),
+        }
     }
 }
 

@@ -2,13 +2,14 @@
 
 use super::state_lines::{media_lines, record_lines, shape_line, table_lines};
 use super::sums::{file_sums, sums};
-use super::texts::{call_line, line, reply_text};
+use super::texts::{call_line, line, recovery_line, reply_text};
 use super::{Counts, Run};
 use crate::cluster::{Call, Cluster, Message, Records, Reply, Shape};
 use crate::fate::{Fate, Left};
 use crate::hex;
 use crate::medium::{PlaceBytes, WIPED};
 use crate::segment::Pair;
+use crate::tries::recoveries::Recovery;
 use crate::tries::scene::UNWRITTEN;
 
 /// What the program holds of media and lock tables, which is more than it lends.
@@ -109,13 +110,27 @@ impl Recorder {
         reply
     }
 
+    /// Makes a recovery.
+    pub fn recover(&mut self, recovery: &Recovery) -> (Reply, u64) {
+        let mut recovery = recovery.clone();
+        recovery.bytes = self.hand_in_given(recovery.has_torn_bytes(), recovery.bytes);
+        self.line(&recovery_line(&recovery));
+        let before = self.cluster.clone();
+        let (reply, count) = recovery.apply(&mut self.cluster);
+        self.keep_slices();
+        let [records, media, tables] = sums(&self.cluster);
+        let text = reply_text(&reply);
+        self.run.output += &format!("{text}\t{count}\t{records:08X}\t{media:08X}\t{tables:08X}\n");
+        self.run.counts.add_recovery(&before, &recovery, (reply, count), &self.cluster);
+        (reply, count)
+    }
+
     fn keep_slices(&mut self) {
         self.media[..self.cluster.media.len()].copy_from_slice(&self.cluster.media);
         self.tables[..self.cluster.locks.len()].copy_from_slice(&self.cluster.locks);
     }
 
-    /// Hands in what lies beside the call. Given bytes only if a write is torn: with other fates
-    /// the call has those of an earlier one, which are not read.
+    /// Hands in what lies beside the call.
     fn with_beside(&mut self, mut call: Call) -> Call {
         match &mut call {
             Call::Prepare { message, .. }
@@ -123,9 +138,9 @@ impl Recorder {
             | Call::Trim { message, .. }
             | Call::Send { message, .. }
             | Call::Note { message, .. }
-            | Call::Read { message, .. } => message.given = self.hand_in_given(message),
+            | Call::Read { message, .. } => message.given = self.hand_in_message(message),
             Call::Export { files, message, .. } => {
-                message.given = self.hand_in_given(message);
+                message.given = self.hand_in_message(message);
                 *files = lent(files.lengths());
             }
             Call::Issue { request, .. } => self.hand_in_request(&request.data, &request.locks),
@@ -134,10 +149,16 @@ impl Recorder {
         call
     }
 
-    fn hand_in_given(&mut self, message: &Message) -> PlaceBytes {
-        if matches!(message.fate, Fate::Cut(_, Left::Torn)) && message.given != self.given {
-            self.given = message.given;
-            self.line(&format!("given\t{}", hex::encode(&message.given)));
+    fn hand_in_message(&mut self, message: &Message) -> PlaceBytes {
+        self.hand_in_given(matches!(message.fate, Fate::Cut(_, Left::Torn)), message.given)
+    }
+
+    /// Given bytes are handed in only if a write is torn: with other fates a call has those of an earlier one,
+    /// which are not read.
+    fn hand_in_given(&mut self, torn: bool, given: PlaceBytes) -> PlaceBytes {
+        if torn && given != self.given {
+            self.given = given;
+            self.line(&format!("given\t{}", hex::encode(&given)));
         }
         self.given
     }

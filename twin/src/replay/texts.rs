@@ -3,6 +3,7 @@
 use crate::cluster::{Answer, Call, Refusal, Reply, Request};
 use crate::fate::{Fate, Left};
 use crate::hex;
+use crate::tries::recoveries::{Recovery, MOST_FATES, MOST_LISTED};
 
 /// A word and its numbers.
 pub fn line(word: &str, numbers: &[u64]) -> String {
@@ -35,6 +36,21 @@ pub fn call_line(call: &Call) -> String {
         Call::Export { stamp, .. } => format!("{line}\t{}", hex::encode(&stamp.key)),
         _ => line,
     }
+}
+
+/// The line of a recovery. The given bytes that are not zeros have a line of their own.
+pub fn recovery_line(recovery: &Recovery) -> String {
+    let Recovery { server, ref listed, ref fates, length, index, .. } = *recovery;
+    assert!(listed.len() <= MOST_LISTED && fates.len() <= MOST_FATES && index < MOST_FATES);
+    let codes: Vec<u64> = fates.iter().map(|fate| fate.code()).collect();
+    assert!(codes.iter().map(|&code| Fate::of_code(code)).eq(fates.iter().copied()));
+    let line = line("recover", &[server, length as u64, index as u64]);
+    format!("{line}\t{}\t{}", numbers_hex(listed), numbers_hex(&codes))
+}
+
+/// Each number as eight bytes.
+pub fn numbers_hex(numbers: &[u64]) -> String {
+    numbers.iter().map(|number| hex::encode(&number.to_be_bytes())).collect()
 }
 
 pub fn word(call: &Call) -> &'static str {

@@ -171,7 +171,7 @@ pub fn set_tables(cluster: &mut Cluster, own: u64, others: u64) {
 
 pub fn record_bytes(id: u64) -> PlaceBytes {
     let (client, generation, partition) = (1, 2, 3);
-    let header = if id % 2 == 0 { 0 } else { HEADER };
+    let header = if id.is_multiple_of(2) { 0 } else { HEADER };
     Record { id, client, generation, partition, sequence: SEQUENCE, header, data: DATA }.encode()
 }
 

@@ -1,10 +1,11 @@
-//! Random states, handed in whole, and calls on them.
+//! Random states, handed in whole, and calls and recoveries on them.
 
 use super::clients::draw_mark;
 use super::exports::draw_export;
 use super::headers::draw_header;
 use super::limits::{draw_client, draw_count, draw_data};
 use super::records::draw_sequence;
+use super::recoveries::{draw_idle, draw_listed, of_messages, Recovery};
 use super::scene::record_bytes;
 use crate::cluster::{
     Call, Cluster, Entry, Message, Phase, Request, Server, Shape, Standing, HELD, SERVERS,
@@ -160,6 +161,18 @@ impl Draw<'_> {
             10 => Call::Stop { server },
             _ => Call::Reassign,
         }
+    }
+
+    /// Mostly by an idle server, with few fates.
+    pub fn recovery(&mut self, cluster: &Cluster) -> Recovery {
+        let server = draw_idle(self.random, cluster);
+        let listed = draw_listed(self.random, cluster.shape.replicas);
+        let count = *self.random.pick(&[0, 0, 1, 3, 9]);
+        let mut messages: Vec<Message> = (0..count).map(|_| self.message()).collect();
+        if let Some(first) = messages.first_mut().filter(|_| !self.random.chance(4)) {
+            first.fate = Fate::Answered;
+        }
+        of_messages(server, &listed, &messages)
     }
 
     fn request(&mut self, cluster: &Cluster, server: u64) -> Request {

@@ -3,7 +3,7 @@
 
 use std::collections::BTreeSet;
 
-use twin::cluster::{Answer, Call, Cluster, ORDER, SERVERS};
+use twin::cluster::{Answer, Call, Cluster, LIST_ROW, ORDER, SERVERS};
 use twin::fate::Fate;
 use twin::random::Random;
 use twin::tries::states::Draw;
@@ -79,5 +79,6 @@ fn calls_leave_alone_what_they_do_not_name() {
             }
         }
     }
-    assert_eq!(met, (0..ORDER.len()).collect());
+    // 29 is the driver's of recoveries, and no call's.
+    assert_eq!(met, (0..ORDER.len()).filter(|row| *row != LIST_ROW).collect());
 }

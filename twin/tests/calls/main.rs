@@ -9,5 +9,7 @@ mod header_zero;
 mod in_flight;
 mod limits;
 mod locks;
+mod recovery;
+mod recovery_promise;
 mod refusals;
 mod stored_headers;

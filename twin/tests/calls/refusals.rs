@@ -1,7 +1,7 @@
 //! Why a call is declined: for each call, every fault that it can meet, alone and with any others.
 //! The reply is the number among the faults that is checked first, and nothing changes.
 
-use twin::cluster::{Answer, Message, FILES_ROW, ORDER};
+use twin::cluster::{Answer, Message, FILES_ROW, LIST_ROW, ORDER};
 use twin::fate::{Fate, Left};
 use twin::random::Random;
 use twin::tries::faults::{faults_of, with_faults, Fault};
@@ -38,7 +38,8 @@ fn each_fault_alone_gives_its_number() {
             met.push(fault.row);
         }
     }
-    assert!((0..ORDER.len()).all(|row| met.contains(&row)), "{met:?}");
+    let rows = (0..ORDER.len()).filter(|row| *row != LIST_ROW);
+    assert!(rows.into_iter().all(|row| met.contains(&row)), "{met:?}");
 }
 
 #[test]

@@ -48,7 +48,7 @@ listed-length r is once below =
 -- ---- the marks
 
 -- every mark that a steady cluster's server has recorded is at most N
-highest-le : (h : Shape) (v : Server) (is : List ℕ) → unlisted (h .replicas) is ≡ false → ((i : ℕ) → i < h .replicas → markAt v i ≤ h .places)
+pub highest-le : (h : Shape) (v : Server) (is : List ℕ) → unlisted (h .replicas) is ≡ false → ((i : ℕ) → i < h .replicas → markAt v i ≤ h .places)
     → highestKnown v is ≤ h .places
 unfolding highestKnown
 highest-le h v [] below f = omega arith
@@ -60,7 +60,7 @@ highest-le h v (i ∷ is) below f =
     known true q = q
     known false q = omega arith
 
-steady-prepares : (h : Shape) (d : Recovery) (is : List ℕ) (t : Trail) → Steady h (t .state) → Steady h (played h t (prepares h d t is) .state)
+pub steady-prepares : (h : Shape) (d : Recovery) (is : List ℕ) (t : Trail) → Steady h (t .state) → Steady h (played h t (prepares h d t is) .state)
 unfolding played prepares
 steady-prepares h d [] t s = s
 steady-prepares h d (i ∷ is) t s = steady-prepares h d is (one h t (preparing d t i)) (steady-prepare h d t i s)
@@ -80,7 +80,7 @@ module _ (h : Shape) (d : Recovery) (a m : ℕ) where
       go true false l = omega arith
       go false fine l = omega arith
 
-  to-most : (b : ℕ) (t : Trail) → length (copiesTo h d a m b t) ≤ m
+  pub to-most : (b : ℕ) (t : Trail) → length (copiesTo h d a m b t) ≤ m
   to-most b t = go (activeAt (serverOf d t) b) (copies-most b (lacks (serverOf d t) m b) t)
     where
       go : (k : Bool) → length (copies h d a m b (lacks (serverOf d t) m b) t) ≤ lacks (serverOf d t) m b
@@ -88,7 +88,7 @@ module _ (h : Shape) (d : Recovery) (a m : ℕ) where
       go true l = omega (arith, l)
       go false l = omega arith
 
-  all-most : (bs : List ℕ) (t : Trail) → length (allCopies h d a m t bs) ≤ length bs * m
+  pub all-most : (bs : List ℕ) (t : Trail) → length (allCopies h d a m t bs) ≤ length bs * m
   unfolding allCopies
   all-most [] t = omega arith
   all-most (b ∷ bs) t =

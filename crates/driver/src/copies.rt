@@ -134,7 +134,16 @@ fn copy_all(
     let mut k = 0;
     while k < listed.len() {
         r = copy_to(
-            shape, r, media, tables, server, from, mark, listed[k], fates, given,
+            shape,
+            r,
+            media,
+            tables,
+            server,
+            from,
+            mark,
+            listed[k],
+            fates,
+            given,
         );
         k += 1;
     }
@@ -162,5 +171,16 @@ pub fn catch_up(
     let v = r.servers[s];
     let mark = highest_known(v, listed);
     let from = first_at(v, mark, listed);
-    copy_all(shape, g, media, tables, server, from, mark, listed, fates, given)
+    copy_all(
+        shape,
+        g,
+        media,
+        tables,
+        server,
+        from,
+        mark,
+        listed,
+        fates,
+        given,
+    )
 }

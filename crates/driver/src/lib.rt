@@ -1,11 +1,11 @@
 // A recovery by a driver, request No. 9: an idle server takes a session, prepares the listed replicas, copies them to one mark and opens.
-pub mod admit;
-pub mod copies;
-pub mod fates;
-pub mod listed;
-pub mod marks;
-pub mod prepares;
-pub mod steps;
+mod admit;
+mod copies;
+mod fates;
+mod listed;
+mod marks;
+mod prepares;
+mod steps;
 
 ghost use mathlib.Core.Path.{_≡_};
 ghost use mathlib.Core.Bool.{false};

@@ -41,7 +41,11 @@ fn is_at(v: Server, i: usize, m: u64) -> bool
     requires { ⌜ i < 7 ⌝ }
     ensures { λ b. ⌜ b ≡ (activeAt v i && eqb (markAt v i) m) ⌝ }
 {
-    if is_active(v, i) { v.marks[i] == m } else { false }
+    if is_active(v, i) {
+        v.marks[i] == m
+    } else {
+        false
+    }
 }
 
 // In the order of the list; 0 if there is none.

@@ -8,11 +8,10 @@ pub mod Staying
 pub mod Turns
 pub mod Listed
 pub mod Highest
-pub mod Distinct
-pub mod Bounded
 pub mod Preparing
 pub mod Copying
 pub mod Opening
 pub mod Arrives
 pub mod Bound
+pub mod Counting
 pub mod Refused

@@ -1,21 +1,21 @@
 -- Calls played one after another: what is left after some of them, for a loop over the listed replicas and for one over the copies of a replica.
 -- Assumes nothing.
 use mathlib.Core.Path.{_≡_, refl, sym, ap, ap₂, _∙_}
-use mathlib.Core.Bool.{Bool, true, false, cond}
+use mathlib.Core.Bool.{Bool, true, false}
 use mathlib.Core.List.{List, [], _∷_, _++_}
-use Prim.Native.Nat.{ℕ, zero, suc, _+_, _-_, _*_, _≤_, _<_}
+use Prim.Native.Nat.{ℕ, zero, suc, _+_, _-_, _≤_, _<_}
 use native.Mathlib.Numerals.{add-one}
 use native.Mathlib.Omega.{arith}
 use lib.Dec.{ltb}
 use borrow.Author.Tests.{lt-ltb, le-ltb}
-use lib.ListN.{length, drop, getD, length-append, drop-of-length-le}
+use lib.ListN.{length, drop, getD, drop-of-length-le}
 use lib.Seq.{drop-cons}
 use Rattle.cluster.specs.declared.Shape.{Shape}
 use Rattle.cluster.specs.State.{State, activeAt, markAt}
 use Rattle.cluster.specs.Replies.{no, silent}
-use Rattle.cluster.specs.Refusals.{Input, pass, declined, firstOf}
+use Rattle.cluster.specs.Refusals.{pass, declined, firstOf}
 use Rattle.recovery.specs.Recovery.{Recovery, Trail, one, played, taking, preparing, copying, opening, isOk, serverOf, prepares, highestKnown, firstAt, copies, lacks, copiesTo, allCopies, catchingUp, afterTake, fromTake, recoveryRows, begun, callsOf, recovered}
-use Rattle.recovery.proofs.Counts.{played-count, played-join}
+use Rattle.recovery.proofs.Counts.{played-join}
 
 -- ---- a walk over a list, one element after another
 
@@ -34,12 +34,6 @@ module _ {A : Type 0} (f : A → ℕ → A) where
     unfolding over
     over-end h = sym (e ∙ rw (drop-of-length-le l h))
 
-  -- what each turn keeps, the walk keeps
-  pub over-keeps : (P : A → Type 0) → ((t : A) (i : ℕ) → P t → P (f t i)) → (t : A) (l : List ℕ) → P t → P (over f t l)
-  unfolding over
-  over-keeps P s t [] p = p
-  over-keeps P s t (i ∷ is) p = over-keeps P s (f t i) is (s t i p)
-
 module _ (h : Shape) (d : Recovery) where
   -- ---- the prepares
 
@@ -55,9 +49,6 @@ module _ (h : Shape) (d : Recovery) where
   unfolding prepares
   prepares-length t [] = refl
   prepares-length t (i ∷ is) = ap suc (prepares-length (prepared t i) is)
-
-  pub prepares-count : (t : Trail) (l : List ℕ) → played h t (prepares h d t l) .count ≡ t .count + length l
-  prepares-count t l = omega (arith, played-count h t (prepares h d t l), prepares-length t l)
 
   -- ---- the copies of one replica, of which so many turns are left
 
@@ -112,29 +103,6 @@ module _ (h : Shape) (d : Recovery) where
 
           pub copies-on : x ≡ true → z ≡ copiedUp (left - 1) t′
           copies-on o = e ∙ goes t left l below (sym answer ∙ o) ∙ ap (copiedUp (left - 1)) (sym made)
-
-    copies-length : (turns : ℕ) (t : Trail) → length (copies h d a m b turns t) ≤ turns
-    unfolding copies
-    copies-length zero t = omega arith
-    copies-length (suc turns) t = go (ltb (markAt (serverOf d t) b) m) (isOk (copied t .reply)) (copies-length turns (copied t))
-      where
-        go :
-            (x y : Bool)
-            → length (copies h d a m b turns (copied t)) ≤ turns
-            → length (cond x (copying d t a b ∷ cond y (copies h d a m b turns (copied t)) []) []) ≤ suc turns
-        go true true e = omega arith
-        go true false e = omega arith
-        go false y e = omega arith
-
-    pub copiesTo-length : (t : Trail) → length (copiesTo h d a m b t) ≤ m
-    copiesTo-length t = go (activeAt (serverOf d t) b)
-      where
-        go : (x : Bool) → length (cond x (copies h d a m b (lacks (serverOf d t) m b) t) []) ≤ m
-        go true = omega (arith, copies-length (lacks (serverOf d t) m b) t)
-        go false = omega arith
-
-    pub copiesTo-count : {z : Trail} (t : Trail) → z ≡ played h t (copiesTo h d a m b t) → z .count ≤ t .count + m
-    copiesTo-count t e = omega (arith, ap (λ (u : Trail). u .count) e, played-count h t (copiesTo h d a m b t), copiesTo-length t)
 
   -- ---- the copies of all
 

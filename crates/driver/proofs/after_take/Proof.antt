@@ -25,14 +25,14 @@ catch-up-requires c κs =
 
 open-session-requires : tie.Need-open-session-requires
 open-session-requires c κs =
-    let a = c .before .before .before .before .before .before .before .before .before .before .before .before .before .before .before .before .before .args in
-    let p = c .before .before .before .before .before .before .before .before .before .before .before .before .before .before .before .before .before .pre in
+    let u = c .before .before .before .before in
+    let a = u .before .before .before .before .before .before .before .before .before .before .before .before .before .args in
+    let p = u .before .before .before .before .before .before .before .before .before .before .before .before .before .pre in
     let d = askedOf (a .server) (a .listed .now) (a .fates .now) (a .given .now) in
     let t = trailOf (a .g) (a .media .now) (a .tables .now) in
-    let e = c .before .before .before .before .before .before .before .before .before .prepare-all .ensures in
     let n = p .1 .1 .0 in
     let few : a .g .calls + length (a .listed .now) ≤ 8 = omega (arith, p .1 .1 .1, n .2 .few) in
-    count-copied (a .shape) d t e few (record { inside = p .0 .0; fits = p .0 .1 }) (n .0) (n .1) (c .before .before .before .before .catch-up .ensures) (n .2 .few)
+    count-copied (a .shape) d t (u .before .before .before .before .before .prepare-all .ensures) few (record { inside = p .0 .0; fits = p .0 .1 }) (n .0) (n .1) (u .catch-up .ensures) (n .2 .few)
 
 same-length : tie.Need-same-length
 same-length c = search needs
@@ -42,8 +42,9 @@ same-length-2 c = search needs
 
 returns : tie.Need-returns
 returns c =
-    let a = c .before .before .before .before .before .before .before .before .before .before .before .before .before .before .before .before .before .before .before .before .args in
-    afterTake-is (a .shape) _ (trailOf (a .g) (a .media .now) (a .tables .now)) (c .before .before .before .before .before .before .before .before .before .before .before .before .prepare-all .ensures) (c .before .before .before .before .before .before .before .catch-up .ensures) (c .before .before .open-session .ensures (a .listed .now) (a .given .now))
+    let u = c .before .before .before .before .before .before .before in
+    let a = u .before .before .before .before .before .before .before .before .before .before .before .before .before .args in
+    afterTake-is (a .shape) _ (trailOf (a .g) (a .media .now) (a .tables .now)) (u .before .before .before .before .before .prepare-all .ensures) (u .catch-up .ensures) (c .before .before .open-session .ensures (a .listed .now) (a .given .now))
 
 pub after-take-spec : {M : Type 1} → statement M
 after-take-spec =

@@ -1,11 +1,9 @@
 -- `recover`: declined, it makes no call (`recovered-declined`); otherwise it is what `run` comes to.
 use mathlib.Core.Path.{refl, sym, ap, _∙_}
-use Rattle.cluster.specs.Replies.{numberOf, valuesOf}
 use Rattle.checks.specs.Verdicts.{verdictOf}
 use Rattle.checks.specs.Results.{stateOf}
 use Rattle.recovery.proofs.Played.{recovered-declined}
 use Rattle.driver.specs.Asked.{askedOf}
-use native.Mathlib.Omega.{arith}
 use borrow.Author.Needs.{needs}
 use Rattle.driver.proofs.recover.Statement.{statement}
 use Rattle.driver.proofs.recover.Tie as tie

@@ -3,7 +3,6 @@ use mathlib.Core.Path.{refl, ap}
 use Rattle.checks.specs.Verdicts.{verdictOf}
 use Rattle.checks.specs.Results.{stateOf}
 use Rattle.driver.proofs.Declining.{by-given, by-replica, by-list}
-use native.Mathlib.Omega.{arith}
 use borrow.Author.Needs.{needs}
 use Rattle.driver.proofs.admit.admit_recovery.Statement.{statement}
 use Rattle.driver.proofs.admit.admit_recovery.Tie as tie
@@ -27,9 +26,10 @@ enum-told c = search needs
 
 returns-2 : tie.Need-returns-2
 returns-2 c =
-    let a = c .before .before .before .before .before .before .before .before .before .before .before .args in
-    by-replica (a .shape) (stateOf (a .records) (a .media .now) (a .tables .now)) (a .server) (a .listed .now) (a .fates .now) (a .given .now) (c .before .before .before .before .before .other-given .ensures) (c .before .before .before .before .if1 .left)
-    (c .before .before .before .unlisted .ensures) (c .before .before .admit-replica .ensures (a .media .now) (a .tables .now) refl refl) (ap verdictOf (c .enum-told .given .1))
+    let u = c .before .before .before in
+    let a = u .before .before .before .before .before .before .before .before .args in
+    by-replica (a .shape) (stateOf (a .records) (a .media .now) (a .tables .now)) (a .server) (a .listed .now) (a .fates .now) (a .given .now) (u .before .before .other-given .ensures) (u .before .if1 .left)
+    (u .unlisted .ensures) (c .before .before .admit-replica .ensures (a .media .now) (a .tables .now) refl refl) (ap verdictOf (c .enum-told .given .1))
 
 enum-told-2 : tie.Need-enum-told-2
 enum-told-2 c = search needs
@@ -42,9 +42,10 @@ also-requires c κs = search needs
 
 returns-3 : tie.Need-returns-3
 returns-3 c =
-    let a = c .before .before .before .before .before .before .before .before .before .before .before .before .before .args in
-    by-list (a .shape) (stateOf (a .records) (a .media .now) (a .tables .now)) (a .server) (a .listed .now) (a .fates .now) (a .given .now) (c .before .before .before .before .before .before .before .other-given .ensures) (c .before .before .before .before .before .before .if1 .left)
-    (c .before .before .before .before .before .unlisted .ensures) (c .before .before .before .before .admit-replica .ensures (a .media .now) (a .tables .now) refl refl) (c .before .unfit-list .ensures) (c .also .ensures)
+    let u = c .before .before .before .before .before in
+    let a = u .before .before .before .before .before .before .before .before .args in
+    by-list (a .shape) (stateOf (a .records) (a .media .now) (a .tables .now)) (a .server) (a .listed .now) (a .fates .now) (a .given .now) (u .before .before .other-given .ensures) (u .before .if1 .left)
+    (u .unlisted .ensures) (c .before .before .before .before .admit-replica .ensures (a .media .now) (a .tables .now) refl refl) (c .before .unfit-list .ensures) (c .also .ensures)
 
 pub admit-recovery-spec : {M : Type 1} → statement M
 admit-recovery-spec =

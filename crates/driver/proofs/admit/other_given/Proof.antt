@@ -1,6 +1,5 @@
 -- `admit::other_given`: quotient and rest say what the product would (`divided`).
 use Rattle.driver.proofs.Declining.{divided}
-use native.Mathlib.Omega.{arith}
 use borrow.Author.Needs.{needs}
 use Rattle.driver.proofs.admit.other_given.Statement.{statement}
 use Rattle.driver.proofs.admit.other_given.Tie as tie

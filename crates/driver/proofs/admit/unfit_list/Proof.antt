@@ -2,7 +2,6 @@
 use mathlib.Core.Path.{ap₂, _∙_}
 use mathlib.Core.Bool.{Bool, _||_}
 use Rattle.driver.proofs.Declining.{none-listed}
-use native.Mathlib.Omega.{arith}
 use borrow.Author.Needs.{needs}
 use Rattle.driver.proofs.admit.unfit_list.Statement.{statement}
 use Rattle.driver.proofs.admit.unfit_list.Tie as tie

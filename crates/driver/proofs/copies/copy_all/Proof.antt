@@ -1,9 +1,10 @@
 -- `copies::copy_all`. The invariant: the copies of the replicas left, made from here on, come to what all of them come to; each replica needs at most as many as the mark.
 use mathlib.Core.Path.{_≡_, refl, sym, ap, _∙_}
-use Prim.Native.Nat.{ℕ, _+_, _-_, _*_, _≤_}
+use Prim.Native.Nat.{_+_, _-_, _*_, _≤_}
 use lib.ListN.{length, drop}
 use Rattle.recovery.specs.Recovery.{Trail}
-use Rattle.recovery.proofs.Played.{over, over-turn, over-end, caughtUp, copiesTo-count, allCopies-over}
+use Rattle.recovery.proofs.Played.{over, over-turn, over-end, caughtUp, allCopies-over}
+use Rattle.recovery.proofs.Counting.{copiesTo-count}
 use Rattle.driver.specs.Asked.{askedOf, trailOf}
 use native.Mathlib.Omega.{arith}
 use borrow.Author.Needs.{needs}

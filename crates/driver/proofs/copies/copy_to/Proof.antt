@@ -2,7 +2,6 @@
 use borrow.Author.Tests.{not-true, not-false}
 use Rattle.recovery.proofs.Played.{passed-over, brought-up}
 use Rattle.driver.specs.Asked.{trailOf}
-use native.Mathlib.Omega.{arith}
 use borrow.Author.Needs.{needs}
 use Rattle.driver.proofs.copies.copy_to.Statement.{statement}
 use Rattle.driver.proofs.copies.copy_to.Tie as tie

@@ -66,7 +66,7 @@ loop-again c =
       search needs,
       omega (arith, ap (λ (t : Trail). t .count) (c .before .before .before .before .copy-record .ensures [])),
       λ listed.
-      copies-on _ _ _ _ _ (trailOf (l .r) (l .media) (a .tables .now)) (l .left) (l .inv .2 listed) (c .before .before .before .before .before .before .before .mark-of .ensures) (c .before .before .before .before .before .before .before .before .before .loop-test .taken) (c .before .before .before .before .before .before .if1 .left) (c .before .before .before .before .copy-record .ensures listed) (c .before .is-ok .ensures) (not-false _ (c .if2 .left)),
+          copies-on _ _ _ _ _ (trailOf (l .r) (l .media) (a .tables .now)) (l .left) (l .inv .2 listed) (c .before .before .before .before .before .before .before .mark-of .ensures) (c .before .before .before .before .before .before .before .before .before .loop-test .taken) (c .before .before .before .before .before .before .if1 .left) (c .before .before .before .before .copy-record .ensures listed) (c .before .is-ok .ensures) (not-false _ (c .if2 .left)),
     )
 
 same-length-3 : tie.Need-same-length-3 Inv-loop μ-loop

@@ -1,7 +1,6 @@
 -- `fates::fate_at`: the list of fates read at an index within it or behind it.
 use mathlib.Core.Path.{_∙_}
 use Rattle.driver.proofs.Codes.{fate-in, fate-behind}
-use native.Mathlib.Omega.{arith}
 use borrow.Author.Needs.{needs}
 use Rattle.driver.proofs.fates.fate_at.Statement.{statement}
 use Rattle.driver.proofs.fates.fate_at.Tie as tie

@@ -1,6 +1,5 @@
 -- `fates::fate_of`: a number above 2 is a cut (`cut-above`).
-use mathlib.Core.Path.{sym, ap, _∙_}
-use Rattle.fate.specs.declared.Fate.the-variants.{Cut}
+use mathlib.Core.Path.{sym}
 use Rattle.driver.proofs.Codes.{cut-above}
 use native.Mathlib.Omega.{arith}
 use borrow.Author.Needs.{needs}

@@ -1,10 +1,9 @@
 -- `fates::given_at`: zeros behind the list, and within it the part that starts at the offset, copied out.
-use mathlib.Core.Path.{refl, _∙_}
+use mathlib.Core.Path.{_∙_}
 use Prim.Native.Nat.{_*_}
 use Rattle.storage.specs.Sizes.{placeSize}
 use borrow.Author.Tests.{lt-ltb, le-ltb}
 use Rattle.octets.proofs.Laws.{between-part}
-use native.Mathlib.Omega.{arith}
 use borrow.Author.Needs.{needs}
 use Rattle.driver.proofs.fates.given_at.Statement.{statement}
 use Rattle.driver.proofs.fates.given_at.Tie as tie

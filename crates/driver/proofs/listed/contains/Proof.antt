@@ -4,7 +4,6 @@ use Prim.Native.Nat.{_-_, _≤_}
 use lib.ListN.{length, drop}
 use Rattle.recovery.specs.Recovery.{contains}
 use Rattle.driver.proofs.Turns.{contains-found, contains-not, contains-end}
-use native.Mathlib.Omega.{arith}
 use borrow.Author.Needs.{needs}
 use Rattle.driver.proofs.listed.contains.Statement.{statement}
 use Rattle.driver.proofs.listed.contains.Tie as tie

@@ -4,7 +4,6 @@ use Prim.Native.Nat.{_-_, _≤_}
 use lib.ListN.{length, drop}
 use Rattle.recovery.specs.Recovery.{repeats}
 use Rattle.driver.proofs.Turns.{repeats-found, repeats-not, repeats-end}
-use native.Mathlib.Omega.{arith}
 use borrow.Author.Needs.{needs}
 use Rattle.driver.proofs.listed.repeats.Statement.{statement}
 use Rattle.driver.proofs.listed.repeats.Tie as tie

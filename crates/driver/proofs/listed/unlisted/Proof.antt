@@ -4,7 +4,6 @@ use Prim.Native.Nat.{_-_, _≤_}
 use lib.ListN.{length, drop}
 use Rattle.recovery.specs.Recovery.{unlisted}
 use Rattle.driver.proofs.Turns.{unlisted-found, unlisted-not, unlisted-end}
-use native.Mathlib.Omega.{arith}
 use borrow.Author.Needs.{needs}
 use Rattle.driver.proofs.listed.unlisted.Statement.{statement}
 use Rattle.driver.proofs.listed.unlisted.Tie as tie

@@ -4,7 +4,6 @@ use Prim.Native.Nat.{_-_, _≤_}
 use lib.ListN.{length, drop}
 use Rattle.recovery.specs.Recovery.{firstAt}
 use Rattle.driver.proofs.Turns.{first-found, first-not, first-end}
-use native.Mathlib.Omega.{arith}
 use borrow.Author.Needs.{needs}
 use Rattle.driver.proofs.marks.first_at.Statement.{statement}
 use Rattle.driver.proofs.marks.first_at.Tie as tie

@@ -1,5 +1,5 @@
 -- `marks::highest_known`. The invariant: the higher of the best so far and the highest of those left is the highest.
-use mathlib.Core.Path.{_≡_, refl, sym, _∙_}
+use mathlib.Core.Path.{_≡_, sym, _∙_}
 use Prim.Native.Nat.{_-_, _≤_, max}
 use lib.ListN.{length, drop}
 use Rattle.recovery.specs.Recovery.{highestKnown}

@@ -1,6 +1,5 @@
 -- `marks::is_at`: whether the replica is known decides whether its mark is looked at, as in the definition's `&&`.
 use mathlib.Core.Path.{sym, _∙_}
-use native.Mathlib.Omega.{arith}
 use borrow.Author.Needs.{needs}
 use Rattle.driver.proofs.marks.is_at.Statement.{statement}
 use Rattle.driver.proofs.marks.is_at.Tie as tie

@@ -1,6 +1,5 @@
 -- `marks::known_mark`: the branch decides the definition's test.
 use mathlib.Core.Path.{sym, _∙_}
-use native.Mathlib.Omega.{arith}
 use borrow.Author.Needs.{needs}
 use Rattle.driver.proofs.marks.known_mark.Statement.{statement}
 use Rattle.driver.proofs.marks.known_mark.Tie as tie

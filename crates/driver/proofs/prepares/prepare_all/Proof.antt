@@ -1,6 +1,6 @@
 -- `prepares::prepare_all`. The invariant: the prepares left, made from here on, come to what all of them come to, and each one made is counted.
 use mathlib.Core.Path.{_≡_, refl, sym, ap, _∙_}
-use Prim.Native.Nat.{ℕ, _+_, _-_, _≤_}
+use Prim.Native.Nat.{_+_, _-_, _≤_}
 use lib.ListN.{length, drop}
 use Rattle.recovery.specs.Recovery.{Trail}
 use Rattle.recovery.proofs.Played.{over, over-turn, over-end, prepared, prepares-over}

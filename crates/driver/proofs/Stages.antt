@@ -16,8 +16,8 @@ use Rattle.recovery.proofs.Steady.{Steady, steady-take}
 use Rattle.recovery.proofs.Own.{own}
 use Rattle.recovery.proofs.Listed.{first-below}
 use Rattle.recovery.proofs.Bound.{listed-length, steady-prepares}
-use Rattle.recovery.proofs.Counting.{prepares-count, highest-within, catching-count}
-use Rattle.driver.specs.Asked.{askedOf, Named}
+use Rattle.recovery.proofs.StageCounts.{prepares-count, highest-within, catching-count}
+use Rattle.recovery.specs.Asked.{askedOf, Named}
 
 -- 4 by the list's indexes
 below-at : (r : ℕ) (l : List ℕ) (k : ℕ) → unlisted r l ≡ false → k < length l → getD l k 0 < r

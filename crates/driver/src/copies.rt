@@ -6,15 +6,15 @@ ghost use lib.ListN.{length};
 ghost use Rattle.storage.specs.Sizes.{placeSize};
 ghost use Rattle.cluster.specs.State.{serverAt, markAt};
 ghost use Rattle.recovery.specs.Recovery.{played, copies, copiesTo, allCopies, lacks, highestKnown, catchingUp};
-ghost use Rattle.driver.specs.Asked.{askedOf, trailOf, Named};
-use crate::marks::first_at;
-use crate::marks::highest_known;
-use crate::steps::copy_record;
-use crate::steps::is_ok;
+ghost use Rattle.recovery.specs.Asked.{askedOf, trailOf, Named};
 use cluster::Records;
 use cluster::Server;
 use cluster::Shape;
 use delivery::plan::is_active;
+use driver_calls::steps::copy_record;
+use driver_calls::steps::is_ok;
+use driver_list::marks::first_at;
+use driver_list::marks::highest_known;
 use recovery::Recovered;
 
 // A server's record of a replica's mark.

@@ -1,11 +1,6 @@
 // A recovery by a driver, request No. 9: an idle server takes a session, prepares the listed replicas, copies them to one mark and opens.
-mod admit;
 mod copies;
-mod fates;
-mod listed;
-mod marks;
 mod prepares;
-mod steps;
 
 ghost use mathlib.Core.Path.{_≡_};
 ghost use mathlib.Core.Bool.{false};
@@ -15,17 +10,17 @@ ghost use Rattle.storage.specs.Sizes.{placeSize};
 ghost use Rattle.cluster.specs.Refusals.{outside, markAbove, pass, firstOf};
 ghost use Rattle.checks.specs.Results.{stateOf};
 ghost use Rattle.recovery.specs.Recovery.{played, unlisted, afterTake, recoveryRows, recovered};
-ghost use Rattle.driver.specs.Asked.{askedOf, trailOf, Named};
+ghost use Rattle.recovery.specs.Asked.{askedOf, trailOf, Named};
 use checks::Check;
 use cluster::Answer;
 use cluster::Records;
 use cluster::Shape;
 use copies::catch_up;
+use driver_calls::steps::is_ok;
+use driver_calls::steps::open_session;
+use driver_calls::steps::take_session;
 use prepares::prepare_all;
 use recovery::Recovered;
-use steps::is_ok;
-use steps::open_session;
-use steps::take_session;
 
 // The prepares, the copies, and an open, whatever they came to.
 fn after_take(
@@ -90,7 +85,16 @@ pub fn recover(
 ) -> Recovered
     ensures { λ o. ⌜ trailOf o (now (media .exit)) (now (tables .exit)) ≡ recovered shape (stateOf records (now (media .entry)) (now (tables .entry))) (askedOf server (now (listed .entry)) (now (fates .entry)) (now (given .entry))) ⌝ }
 {
-    let k = admit::admit_recovery(shape, records, media, tables, server, listed, fates, given);
+    let k = driver_list::admit::admit_recovery(
+        shape,
+        records,
+        media,
+        tables,
+        server,
+        listed,
+        fates,
+        given,
+    );
     match k {
         Check::Refuse(why) => Recovered {
             records: records,

@@ -4,9 +4,9 @@ ghost use Prim.Native.Nat.{_+_, _*_, _<_, _^_};
 ghost use lib.ListN.{length};
 ghost use Rattle.storage.specs.Sizes.{placeSize};
 ghost use Rattle.recovery.specs.Recovery.{played, prepares};
-ghost use Rattle.driver.specs.Asked.{askedOf, trailOf};
-use crate::steps::prepare_replica;
+ghost use Rattle.recovery.specs.Asked.{askedOf, trailOf};
 use cluster::Shape;
+use driver_calls::steps::prepare_replica;
 use recovery::Recovered;
 
 pub fn prepare_all(

@@ -13,5 +13,5 @@ pub mod Copying
 pub mod Opening
 pub mod Arrives
 pub mod Bound
-pub mod Counting
+pub mod StageCounts
 pub mod Refused

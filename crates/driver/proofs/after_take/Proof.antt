@@ -2,7 +2,7 @@
 use Prim.Native.Nat.{_+_, _≤_}
 use lib.ListN.{length}
 use Rattle.recovery.proofs.Played.{afterTake-is}
-use Rattle.driver.specs.Asked.{askedOf, trailOf}
+use Rattle.recovery.specs.Asked.{askedOf, trailOf}
 use Rattle.driver.proofs.Stages.{count-prepared, mark-prepared, count-copied}
 use native.Mathlib.Omega.{arith}
 use borrow.Author.Needs.{needs}

@@ -3,7 +3,7 @@ use mathlib.Core.Path.{refl, sym, ap, _∙_}
 use Rattle.checks.specs.Verdicts.{verdictOf}
 use Rattle.checks.specs.Results.{stateOf}
 use Rattle.recovery.proofs.Played.{recovered-declined}
-use Rattle.driver.specs.Asked.{askedOf}
+use Rattle.recovery.specs.Asked.{askedOf}
 use borrow.Author.Needs.{needs}
 use Rattle.driver.proofs.recover.Statement.{statement}
 use Rattle.driver.proofs.recover.Tie as tie

@@ -4,7 +4,7 @@ use borrow.Author.Tests.{not-true, not-false}
 use Rattle.checks.specs.Results.{stateOf}
 use Rattle.recovery.specs.Recovery.{Trail}
 use Rattle.recovery.proofs.Played.{start, fromTake-ends, fromTake-goes-on, recovered-passed}
-use Rattle.driver.specs.Asked.{askedOf}
+use Rattle.recovery.specs.Asked.{askedOf}
 use Rattle.driver.proofs.Stages.{known, after-take}
 use native.Mathlib.Omega.{arith}
 use borrow.Author.Needs.{needs}

@@ -1,6 +1,6 @@
 -- `copies::catch_up`: the mark and the source that are found are those of the definition (`caught-up-is`).
 use Rattle.recovery.proofs.Played.{caught-up-is}
-use Rattle.driver.specs.Asked.{trailOf}
+use Rattle.recovery.specs.Asked.{trailOf}
 use borrow.Author.Needs.{needs}
 use Rattle.driver.proofs.copies.catch_up.Statement.{statement}
 use Rattle.driver.proofs.copies.catch_up.Tie as tie

@@ -4,8 +4,8 @@ use Prim.Native.Nat.{_+_, _-_, _*_, _≤_}
 use lib.ListN.{length, drop}
 use Rattle.recovery.specs.Recovery.{Trail}
 use Rattle.recovery.proofs.Played.{over, over-turn, over-end, caughtUp, allCopies-over}
-use Rattle.recovery.proofs.Counting.{copiesTo-count}
-use Rattle.driver.specs.Asked.{askedOf, trailOf}
+use Rattle.recovery.proofs.StageCounts.{copiesTo-count}
+use Rattle.recovery.specs.Asked.{askedOf, trailOf}
 use native.Mathlib.Omega.{arith}
 use borrow.Author.Needs.{needs}
 use Rattle.driver.proofs.copies.copy_all.Statement.{statement}

@@ -1,7 +1,7 @@
 -- `copies::copy_to`: one that isn't known is passed over (`passed-over`), another brought up as far as it lacks (`brought-up`).
 use borrow.Author.Tests.{not-true, not-false}
 use Rattle.recovery.proofs.Played.{passed-over, brought-up}
-use Rattle.driver.specs.Asked.{trailOf}
+use Rattle.recovery.specs.Asked.{trailOf}
 use borrow.Author.Needs.{needs}
 use Rattle.driver.proofs.copies.copy_to.Statement.{statement}
 use Rattle.driver.proofs.copies.copy_to.Tie as tie

@@ -6,7 +6,7 @@ use lib.ListN.{length}
 use borrow.Author.Tests.{not-true, not-false}
 use Rattle.recovery.specs.Recovery.{Trail}
 use Rattle.recovery.proofs.Played.{copiedUp, copies-none, copies-done, copies-stop, copies-on}
-use Rattle.driver.specs.Asked.{askedOf, trailOf}
+use Rattle.recovery.specs.Asked.{askedOf, trailOf}
 use native.Mathlib.Omega.{arith}
 use borrow.Author.Needs.{needs}
 use Rattle.driver.proofs.copies.copy_up.Statement.{statement}

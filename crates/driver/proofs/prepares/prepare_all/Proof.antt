@@ -4,7 +4,7 @@ use Prim.Native.Nat.{_+_, _-_, _≤_}
 use lib.ListN.{length, drop}
 use Rattle.recovery.specs.Recovery.{Trail}
 use Rattle.recovery.proofs.Played.{over, over-turn, over-end, prepared, prepares-over}
-use Rattle.driver.specs.Asked.{askedOf, trailOf}
+use Rattle.recovery.specs.Asked.{askedOf, trailOf}
 use native.Mathlib.Omega.{arith}
 use borrow.Author.Needs.{needs}
 use Rattle.driver.proofs.prepares.prepare_all.Statement.{statement}

@@ -1,2 +1,0 @@
--- What a running recovery gets and gives.
-pub mod Asked

@@ -1,0 +1,4 @@
+// What a driver looks for in its list of replicas: why a recovery is declined itself, and after the prepares the highest mark and who has it.
+pub mod admit;
+pub mod listed;
+pub mod marks;

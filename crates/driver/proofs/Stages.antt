@@ -11,7 +11,8 @@ use Rattle.cluster.specs.declared.Shape.{Shape}
 use Rattle.cluster.specs.State.{State}
 use Rattle.cluster.specs.Refusals.{pass, firstOf}
 use Rattle.checks.proofs.Sizes.{within}
-use Rattle.recovery.specs.Recovery.{Recovery, Trail, fateOf, one, played, taking, serverOf, prepares, highestKnown, catchingUp, unlisted, recoveryRows}
+use Rattle.recovery.specs.Recovery.{Recovery, Trail, one, played, taking, serverOf, prepares, highestKnown, catchingUp, notBelow, recoveryRows}
+use Rattle.recovery.specs.Asked.{fateOf}
 use Rattle.recovery.proofs.Steady.{Steady, steady-take}
 use Rattle.recovery.proofs.Own.{own}
 use Rattle.recovery.proofs.Listed.{first-below}
@@ -20,7 +21,7 @@ use Rattle.recovery.proofs.StageCounts.{prepares-count, highest-within, catchin
 use Rattle.recovery.specs.Asked.{askedOf, Named}
 
 -- 4 by the list's indexes
-below-at : (r : ℕ) (l : List ℕ) (k : ℕ) → unlisted r l ≡ false → k < length l → getD l k 0 < r
+below-at : (r : ℕ) (l : List ℕ) (k : ℕ) → notBelow r l ≡ false → k < length l → getD l k 0 < r
 below-at r [] k e h = absurd (omega arith)
 below-at r (i ∷ is) zero e h = first-below r i is e .0
 below-at r (i ∷ is) (suc k) e h = below-at r is k (first-below r i is e .1) (omega arith)
@@ -30,7 +31,7 @@ pub record Known (h : Shape) (x : State) (s : ℕ) (listed fs given : List ℕ) 
   pub steady : Steady h x
   pub beside : length given ≡ length fs * placeSize
   pub server : s < 4
-  pub below : unlisted (h .replicas) listed ≡ false
+  pub below : notBelow (h .replicas) listed ≡ false
   pub named : Named listed
 
 pub known : (h : Shape) (x : State) (s : ℕ) (listed fs given : List ℕ) → firstOf (recoveryRows h x (askedOf s listed fs given)) ≡ pass → Known h x s listed fs given
@@ -58,7 +59,7 @@ module _ (h : Shape) (d : Recovery) where
     pub count-prepared : u .count ≤ 8
     count-prepared = omega (arith, prepares-count h d t eu)
 
-    module _ (s : Steady h (t .state)) (l : d .server < 4) (below : unlisted (h .replicas) (d .listed) ≡ false) where
+    module _ (s : Steady h (t .state)) (l : d .server < 4) (below : notBelow (h .replicas) (d .listed) ≡ false) where
       pub mark-prepared : highestKnown (serverOf d u) (d .listed) ≤ 1000
       mark-prepared =
           let q : Steady h (u .state) = rw eu (steady-prepares h d (d .listed) t s) in

@@ -9,7 +9,7 @@ ghost use lib.ListN.{length};
 ghost use Rattle.storage.specs.Sizes.{placeSize};
 ghost use Rattle.cluster.specs.Refusals.{outside, markAbove, pass, firstOf};
 ghost use Rattle.checks.specs.Results.{stateOf};
-ghost use Rattle.recovery.specs.Recovery.{played, unlisted, afterTake, recoveryRows, recovered};
+ghost use Rattle.recovery.specs.Recovery.{played, notBelow, afterTake, recoveryRows, recovered};
 ghost use Rattle.recovery.specs.Asked.{askedOf, trailOf, Named};
 use checks::Check;
 use cluster::Answer;
@@ -35,7 +35,7 @@ fn after_take(
 ) -> Recovered
     requires { ⌜ (outside shape (length (now media)) (length (now tables)) ≡ false) × (markAbove shape (g .records) ≡ false) ⌝ }
     requires { ⌜ length (now given) ≡ length (now fates) * placeSize ⌝ }
-    requires { ⌜ (server < 4) × (unlisted (shape .replicas) (now listed) ≡ false) × (Named (now listed)) ⌝ }
+    requires { ⌜ (server < 4) × (notBelow (shape .replicas) (now listed) ≡ false) × (Named (now listed)) ⌝ }
     requires { ⌜ g .calls ≤ 1 ⌝ }
     ensures { λ o. ⌜ (let t = trailOf g (now (media .entry)) (now (tables .entry)) in trailOf o (now (media .exit)) (now (tables .exit)) ≡ played shape t (afterTake shape (askedOf server (now (listed .entry)) (now (fates .entry)) (now (given .entry))) t)) ⌝ }
 {

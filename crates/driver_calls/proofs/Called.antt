@@ -17,7 +17,8 @@ use Rattle.cluster.specs.Effects.{Result, noBytes}
 use Rattle.cluster.specs.Step.{step}
 use Rattle.checks.specs.Results.{stateOf, resultOf}
 use Rattle.recovery.specs.declared.Recovered.{Recovered}
-use Rattle.recovery.specs.Recovery.{one, fateOf, fatesOf, fateAt, givenAt}
+use Rattle.recovery.specs.Recovery.{one, fateAt, givenAt}
+use Rattle.recovery.specs.Asked.{fateOf, fatesOf}
 use Rattle.recovery.specs.Asked.{askedOf, trailOf, counted}
 
 -- from media m and lock tables t, which the call left as m′ and t′

@@ -7,7 +7,7 @@ use native.Mathlib.Omega.{arith}
 use lib.ListN.{length, getD, length-map, List·getD-map, List·getD-eq-default}
 use Rattle.fate.specs.declared.Fate.the-variants.{Answered, Cut}
 use Rattle.fate.specs.declared.Left.the-variants.{Torn}
-use Rattle.recovery.specs.Recovery.{leftOf, fateOf, fatesOf}
+use Rattle.recovery.specs.Asked.{leftOf, fateOf, fatesOf}
 
 pub torn-above : (l : ℕ) → 2 ≤ l → leftOf l ≡ Torn
 torn-above zero h = absurd (omega arith)

@@ -8,7 +8,7 @@ ghost use Rattle.octets.specs.Octets.{part};
 ghost use Rattle.fate.specs.declared.Fate.the-variants.{Answered};
 ghost use Rattle.storage.specs.Sizes.{placeSize};
 ghost use Rattle.cluster.specs.Effects.{noBytes};
-ghost use Rattle.recovery.specs.Recovery.{leftOf, fateOf, fatesOf};
+ghost use Rattle.recovery.specs.Asked.{leftOf, fateOf, fatesOf};
 use fate::Fate;
 use fate::Left;
 use storage::sizes::PLACE;

@@ -16,7 +16,8 @@ use Rattle.cluster.specs.State.{State}
 use Rattle.cluster.specs.Refusals.{Row, row, outside, onlyIdle, replicaRows, Verdict, declined, firstOf, andThen}
 use Rattle.cluster.proofs.Rows.{firstOf-append}
 use Rattle.checks.proofs.Behind.{behind}
-use Rattle.recovery.specs.Recovery.{fateOf, repeats, namesNone, unlisted, otherGiven, recoveryRows}
+use Rattle.recovery.specs.Recovery.{repeats, namesNone, notBelow, otherGiven, recoveryRows}
+use Rattle.recovery.specs.Asked.{fateOf}
 use Rattle.recovery.specs.Asked.{askedOf}
 
 -- ---- the given bytes, by their quotient and rest
@@ -47,7 +48,7 @@ module _ (h : Shape) (x : State) (s : ℕ) (listed fs given : List ℕ) {b : Boo
   by-given e = rw (sym bytes ∙ e, or-true (outside h (length (x .media)) (length (x .tables))))
 
   abbrev front : List Row
-  front = replicaRows h x s (unlisted (h .replicas) listed) onlyIdle
+  front = replicaRows h x s (notBelow (h .replicas) listed) onlyIdle
 
   abbrev last : List Row
   last = row 29 (repeats listed || namesNone listed) ∷ []
@@ -56,7 +57,7 @@ module _ (h : Shape) (x : State) (s : ℕ) (listed fs given : List ℕ) {b : Boo
   rows-are e = rw (sym bytes ∙ e, or-false (outside h (length (x .media)) (length (x .tables))))
 
   -- n is whether a listed number is not below R, v what 1 to 5 come to by it
-  module _ (e : b ≡ false) {n : Bool} (en : n ≡ unlisted (h .replicas) listed) {v : Verdict} (ev : v ≡ firstOf (replicaRows h x s n onlyIdle)) where
+  module _ (e : b ≡ false) {n : Bool} (en : n ≡ notBelow (h .replicas) listed) {v : Verdict} (ev : v ≡ firstOf (replicaRows h x s n onlyIdle)) where
     checked : v ≡ firstOf front
     checked = ev ∙ ap (λ (y : Bool). firstOf (replicaRows h x s y onlyIdle)) en
 

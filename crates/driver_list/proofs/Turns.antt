@@ -12,7 +12,7 @@ use lib.Seq.{drop-cons, take-all}
 use borrow.Author.Tests.{le-leb, lt-leb, eq-eqb, ne-eqb}
 use Rattle.cluster.specs.declared.Server.{Server}
 use Rattle.cluster.specs.State.{activeAt, markAt}
-use Rattle.recovery.specs.Recovery.{contains, repeats, unlisted, highestKnown, firstAt}
+use Rattle.recovery.specs.Recovery.{contains, repeats, notBelow, highestKnown, firstAt}
 
 -- what `&s[a..]` refers to
 pub to-end : (a : ℕ) (s : List ℕ) → take (length s - a) (drop a s) ≡ drop a s
@@ -31,17 +31,17 @@ module _ (l : List ℕ) (k : ℕ) where
   -- ---- the loops that end at the first number found
 
   module _ (r : ℕ) where
-    pub unlisted-found : k < length l → r ≤ here → true ≡ unlisted r (drop k l)
-    unfolding unlisted
-    unlisted-found h e = rw (next h, le-leb r here e)
+    pub notBelow-found : k < length l → r ≤ here → true ≡ notBelow r (drop k l)
+    unfolding notBelow
+    notBelow-found h e = rw (next h, le-leb r here e)
 
-    pub unlisted-not : k < length l → here < r → unlisted r (drop k l) ≡ unlisted r others
-    unfolding unlisted
-    unlisted-not h e = rw (next h, lt-leb r here e)
+    pub notBelow-not : k < length l → here < r → notBelow r (drop k l) ≡ notBelow r others
+    unfolding notBelow
+    notBelow-not h e = rw (next h, lt-leb r here e)
 
-    pub unlisted-end : length l ≤ k → false ≡ unlisted r (drop k l)
-    unfolding unlisted
-    unlisted-end h = rw (drop-of-length-le l h)
+    pub notBelow-end : length l ≤ k → false ≡ notBelow r (drop k l)
+    unfolding notBelow
+    notBelow-end h = rw (drop-of-length-le l h)
 
   module _ (i : ℕ) where
     pub contains-found : k < length l → here ≡ i → true ≡ contains (drop k l) i

@@ -10,7 +10,7 @@ ghost use Rattle.checks.specs.Results.{stateOf};
 ghost use Rattle.recovery.specs.Recovery.{repeats, namesNone, recoveryRows};
 ghost use Rattle.recovery.specs.Asked.{askedOf};
 use crate::listed::repeats;
-use crate::listed::unlisted;
+use crate::listed::not_below;
 use checks::Check;
 use checks::admit_replica;
 use checks::also;
@@ -62,7 +62,7 @@ pub fn admit_recovery(
         media.len(),
         tables.len(),
         server,
-        unlisted(shape.replicas, listed),
+        not_below(shape.replicas, listed),
         phases,
     );
     if let Check::Refuse(_) = k {

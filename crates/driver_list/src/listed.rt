@@ -1,10 +1,10 @@
 // The list of replicas: 4, and what 29 looks for.
 ghost use mathlib.Core.Path.{_≡_};
-ghost use Rattle.recovery.specs.Recovery.{contains, repeats, unlisted};
+ghost use Rattle.recovery.specs.Recovery.{contains, repeats, notBelow};
 
 // 4: a listed number is not below R.
-pub fn unlisted(replicas: u64, listed: &[u64]) -> bool
-    ensures { λ b. ⌜ b ≡ unlisted replicas (now (listed .entry)) ⌝ }
+pub fn not_below(replicas: u64, listed: &[u64]) -> bool
+    ensures { λ b. ⌜ b ≡ notBelow replicas (now (listed .entry)) ⌝ }
 {
     let mut k = 0;
     while k < listed.len() {

@@ -20,7 +20,7 @@ use Rattle.cluster.specs.declared.Phase.the-variants.{Opening, Open}
 use Rattle.cluster.specs.declared.Server.{Server}
 use Rattle.cluster.specs.State.{State, freshEntry, idleServer, tableSize, fresh}
 use Rattle.cluster.specs.Replies.{no}
-use Rattle.recovery.specs.Recovery.{played, fateAt, givenAt, prepares, highestKnown, firstAt, copies, allCopies, afterTake, fromTake, contains, repeats, unlisted, begun, callsOf, recovered}
+use Rattle.recovery.specs.Recovery.{played, fateAt, givenAt, prepares, highestKnown, firstAt, copies, allCopies, afterTake, fromTake, contains, repeats, notBelow, begun, callsOf, recovered}
 use Rattle.guarantee.specs.History.{log, History, setAt, told, heard, Moment, beginning, along}
 use Rattle.guarantee.specs.Guarantee.{InRange, CoveredAll, Kept}
 use Rattle.guarantee.specs.Recoveries.{reading, alongItems, flat, CoveredItems}
@@ -126,7 +126,7 @@ part-4 = refl
 -- to unfold this is to unfold a recovery
 unfoldable driving : ℕ
 unfolding
-    unfolded callsOf fromTake afterTake prepares played copies allCopies highestKnown firstAt begun fateAt givenAt contains repeats unlisted
+    unfolded callsOf fromTake afterTake prepares played copies allCopies highestKnown firstAt begun fateAt givenAt contains repeats notBelow
 driving = 0
 
 made-1 : callsOf shape (fresh shape) recovery-1 ≡ calls-1

@@ -29,7 +29,7 @@ use Rattle.cluster.specs.Replies.{ok}
 use Rattle.cluster.specs.Refusals.{Input, noSlot, promiseAbove, sessionAtTop, refusesPrepare, rowsOf, pass, firstOf}
 use Rattle.cluster.proofs.Rows.{passed}
 use Rattle.cluster.proofs.AsStored.{media-size}
-use Rattle.recovery.specs.Recovery.{Recovery, Trail, fateAt, one, played, taking, opening, isOk, serverOf, prepares, highestKnown, firstAt, catchingUp, afterTake, fromTake, contains, repeats, namesNone, unlisted, recoveryRows, begun, callsOf, recovered}
+use Rattle.recovery.specs.Recovery.{Recovery, Trail, fateAt, one, played, taking, opening, isOk, serverOf, prepares, highestKnown, firstAt, catchingUp, afterTake, fromTake, contains, repeats, namesNone, notBelow, recoveryRows, begun, callsOf, recovered}
 use Rattle.recovery.specs.Arrival.{Typed, ready, howMany, taken, prepared, highestMark, lacking, Met, Arrived, Arrives}
 use Rattle.recovery.proofs.Counts.{played-count, played-more}
 use Rattle.recovery.proofs.Played.{prepares-length, afterTake-is}
@@ -100,6 +100,7 @@ module _ (h : Shape) (x : State) (d : Recovery) (T : Typed x) (M : Met h x d) wh
   -- ---- the take
 
   takes : fateAt d 0 ≡ Answered
+  unfolding fateAt
   takes = M .answered 0 (first-call h x d (M .admitted))
 
   take-passes : firstOf (rowsOf h x (taking d t₀)) ≡ pass
@@ -131,6 +132,7 @@ module _ (h : Shape) (x : State) (d : Recovery) (T : Typed x) (M : Met h x d) wh
   last = ends h x d (M .admitted) ok₁
 
   answers : (k : ℕ) → k < one h t₃ (opening d t₃) .count → fateAt d k ≡ Answered
+  unfolding fateAt
   answers = subst (λ (u : Trail). (k : ℕ) → k < u .count → fateAt d k ≡ Answered) last (M .answered)
 
   counts₃ : t₂ .count ≤ t₃ .count

@@ -16,7 +16,7 @@ use Rattle.cluster.specs.declared.Server.{Server}
 use Rattle.cluster.specs.State.{State, serverAt, markAt, activeAt}
 use Rattle.cluster.specs.Refusals.{Input, Verdict, pass, declined, firstOf}
 use Rattle.cluster.proofs.Marks.{marks-fit}
-use Rattle.recovery.specs.Recovery.{Recovery, Trail, one, played, preparing, copying, opening, taking, isOk, serverOf, prepares, highestKnown, firstAt, copies, lacks, copiesTo, allCopies, catchingUp, afterTake, fromTake, contains, repeats, unlisted, recoveryRows, begun, unlessDeclined, callsOf, recovered}
+use Rattle.recovery.specs.Recovery.{Recovery, Trail, one, played, preparing, copying, opening, taking, isOk, serverOf, prepares, highestKnown, firstAt, copies, lacks, copiesTo, allCopies, catchingUp, afterTake, fromTake, contains, repeats, notBelow, recoveryRows, begun, unlessDeclined, callsOf, recovered}
 use Rattle.recovery.specs.Arrival.{howMany, taken}
 use Rattle.recovery.proofs.Counts.{played-count}
 use Rattle.recovery.proofs.Steady.{Steady, steady-take, steady-prepare}
@@ -36,7 +36,7 @@ every [] = refl
 every (i ∷ is) = omega (arith, every is)
 
 -- a list without repeats whose numbers are all below R has at most R of them
-pub listed-length : (r : ℕ) (is : List ℕ) → repeats is ≡ false → unlisted r is ≡ false → length is ≤ r
+pub listed-length : (r : ℕ) (is : List ℕ) → repeats is ≡ false → notBelow r is ≡ false → length is ≤ r
 listed-length r is once below =
     omega (
       arith,
@@ -48,7 +48,7 @@ listed-length r is once below =
 -- ---- the marks
 
 -- every mark that a steady cluster's server has recorded is at most N
-pub highest-le : (h : Shape) (v : Server) (is : List ℕ) → unlisted (h .replicas) is ≡ false → ((i : ℕ) → i < h .replicas → markAt v i ≤ h .places)
+pub highest-le : (h : Shape) (v : Server) (is : List ℕ) → notBelow (h .replicas) is ≡ false → ((i : ℕ) → i < h .replicas → markAt v i ≤ h .places)
     → highestKnown v is ≤ h .places
 unfolding highestKnown
 highest-le h v [] below f = omega arith

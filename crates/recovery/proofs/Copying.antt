@@ -35,7 +35,7 @@ use Rattle.cluster.specs.Refusals.{Input, isNeither, noSlot, promiseDiffers, ma
 use Rattle.cluster.specs.Effects.{withReplica, withMediumAndServer, appendEffect}
 use Rattle.cluster.specs.Step.{unless, step}
 use Rattle.cluster.proofs.AsStored.{media-size, place-length}
-use Rattle.recovery.specs.Recovery.{Recovery, Trail, fateAt, one, played, copying, isOk, serverOf, copies, lacks, copiesTo, allCopies, contains, repeats, unlisted}
+use Rattle.recovery.specs.Recovery.{Recovery, Trail, fateAt, one, played, copying, isOk, serverOf, copies, lacks, copiesTo, allCopies, contains, repeats, notBelow}
 use Rattle.recovery.specs.Arrival.{lacking}
 use Rattle.recovery.proofs.Steady.{steady-copy, medium-size}
 use Rattle.recovery.proofs.Counts.{played-more, played-join, played-count}
@@ -45,7 +45,7 @@ use Rattle.recovery.proofs.Preparing.{harmless}
 
 -- ---- a good replica does not decline
 
-slot-there : (m : List ℕ) → HasSlot m → noSlot m ≡ false
+pub slot-there : (m : List ℕ) → HasSlot m → noSlot m ≡ false
 unfolding noSlot
 slot-there m e = go (currentOf m) refl
   where
@@ -300,7 +300,7 @@ module _ (h : Shape) (d : Recovery) (new : ℕ) (seven : h .replicas ≤ 7) (a :
     pub known : (b : ℕ) → activeAt (serverOf d (after-all t bs)) b ≡ activeAt (serverOf d t) b
     pub there : (b : ℕ) → contains bs b ≡ true → After (after-all t bs) b
 
-  pub copy-all : (bs : List ℕ) (t : Trail) → repeats bs ≡ false → unlisted (h .replicas) bs ≡ false → Underway h d new t → Source t
+  pub copy-all : (bs : List ℕ) (t : Trail) → repeats bs ≡ false → notBelow (h .replicas) bs ≡ false → Underway h d new t → Source t
       → ((b : ℕ) → contains bs b ≡ true → Before t b) → Answers (after-all t bs) → All t bs
   unfolding played allCopies lacking contains
   copy-all [] t once below U s B A = record { made = refl; underway = U; others = λ j e. same-state h d t t j refl; known = λ b. refl; there = λ b e. absurd (false≢true e) }

@@ -14,7 +14,7 @@ use Rattle.base.proofs.Below.{count-mono, bit-le}
 use Rattle.base.proofs.Tests.{both, lt-or-le}
 use Rattle.cluster.specs.declared.Server.{Server}
 use Rattle.cluster.specs.State.{markAt, activeAt}
-use Rattle.recovery.specs.Recovery.{contains, repeats, unlisted, highestKnown, firstAt}
+use Rattle.recovery.specs.Recovery.{contains, repeats, notBelow, highestKnown, firstAt}
 use Rattle.recovery.specs.Arrival.{howMany}
 use Rattle.recovery.proofs.Listed.{first-unique, first-below, first-in, later-in, in-either}
 
@@ -103,7 +103,7 @@ count-more p q (suc n) i l a b f = go (λ k. count-more p q n i k a b f) (ℕ-di
     go r (no e) = omega (arith, r (omega (arith, e)), f n)
 
 -- those of a list without repeats, all below r, are among those that are counted below r
-pub many-listed : (p q : ℕ → Bool) (r : ℕ) (is : List ℕ) → repeats is ≡ false → unlisted r is ≡ false
+pub many-listed : (p q : ℕ → Bool) (r : ℕ) (is : List ℕ) → repeats is ≡ false → notBelow r is ≡ false
     → ((i : ℕ) → contains is i ≡ true → p i ≡ true → q i ≡ true)
     → howMany p is ≤ count (λ i. q i && contains is i) r
 unfolding howMany

@@ -15,3 +15,7 @@ pub mod Arrives
 pub mod Bound
 pub mod StageCounts
 pub mod Refused
+pub mod TurnsEnough
+pub mod OneACall
+pub mod InOrder
+pub mod FreshArrives

@@ -8,16 +8,16 @@ use Prim.Native.Nat.{ℕ, _<_}
 use lib.Dec.{eqb, leb}
 use borrow.Author.Tests.{eq-eqb, eqb-true, eqb-false, leb-false}
 use Rattle.base.proofs.Tests.{neither, either}
-use Rattle.recovery.specs.Recovery.{contains, repeats, unlisted}
+use Rattle.recovery.specs.Recovery.{contains, repeats, notBelow}
 
 -- what a list without repeats says of its first
 pub first-unique : (i : ℕ) (is : List ℕ) → repeats (i ∷ is) ≡ false → (contains is i ≡ false) × (repeats is ≡ false)
 unfolding repeats
 first-unique i is e = neither (contains is i) (repeats is) e
 
-pub first-below : (r i : ℕ) (is : List ℕ) → unlisted r (i ∷ is) ≡ false → (i < r) × (unlisted r is ≡ false)
-unfolding unlisted
-first-below r i is e = let n = neither (leb r i) (unlisted r is) e in (leb-false r i (n .0), n .1)
+pub first-below : (r i : ℕ) (is : List ℕ) → notBelow r (i ∷ is) ≡ false → (i < r) × (notBelow r is ≡ false)
+unfolding notBelow
+first-below r i is e = let n = neither (leb r i) (notBelow r is) e in (leb-false r i (n .0), n .1)
 
 pub first-in : (i : ℕ) (is : List ℕ) → contains (i ∷ is) i ≡ true
 unfolding contains
@@ -45,7 +45,7 @@ pub differs : (i j : ℕ) (is : List ℕ) → contains is j ≡ true → contain
 differs i j is a b e = false≢true (sym b ∙ rw (sym e) a)
 
 -- whoever is listed is below R
-pub listed-below : (r i : ℕ) (is : List ℕ) → unlisted r is ≡ false → contains is i ≡ true → i < r
+pub listed-below : (r i : ℕ) (is : List ℕ) → notBelow r is ≡ false → contains is i ≡ true → i < r
 unfolding contains
 listed-below r i [] below e = absurd (false≢true e)
 listed-below r i (k ∷ is) below e =

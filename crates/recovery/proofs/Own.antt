@@ -15,14 +15,14 @@ use Rattle.cluster.specs.declared.Shape.{Shape}
 use Rattle.cluster.specs.State.{State, serverAt}
 use Rattle.cluster.specs.Refusals.{outside, onlyIdle, wrongPhase, isCut, answered, sessionAtTop, row, rowsOf, pass, firstOf}
 use Rattle.cluster.proofs.Rows.{passed}
-use Rattle.recovery.specs.Recovery.{Recovery, Trail, fateAt, taking, otherGiven, unlisted, repeats, namesNone, recoveryRows}
+use Rattle.recovery.specs.Recovery.{Recovery, Trail, fateAt, taking, otherGiven, notBelow, repeats, namesNone, recoveryRows}
 use Rattle.recovery.proofs.Steady.{Steady}
 
 pub record Admitted (h : Shape) (x : State) (d : Recovery) : Type 0 where
   pub steady : Steady h x
   pub given : length (d .given) ≡ length (d .fates) * placeSize
   pub server : d .server < 4
-  pub below : unlisted (h .replicas) (d .listed) ≡ false
+  pub below : notBelow (h .replicas) (d .listed) ≡ false
   pub idle : wrongPhase onlyIdle (serverAt (x .records) (d .server)) ≡ false
   pub once : repeats (d .listed) ≡ false
   pub some : namesNone (d .listed) ≡ false

@@ -41,7 +41,7 @@ use Rattle.cluster.specs.Effects.{withReplica, withMediumAndServer, targetOf, p
 use Rattle.cluster.specs.Step.{effect, unless, step}
 use Rattle.cluster.proofs.AsStored.{media-size}
 use Rattle.recovery.specs.Recovery as recovery
-use Rattle.recovery.specs.Recovery.{Recovery, Trail, fateAt, one, played, preparing, serverOf, contains, repeats, unlisted}
+use Rattle.recovery.specs.Recovery.{Recovery, Trail, fateAt, one, played, preparing, serverOf, contains, repeats, notBelow}
 use Rattle.recovery.proofs.Steady.{Steady, steady-prepare, medium-size}
 use Rattle.recovery.proofs.Counts.{played-more}
 use Rattle.recovery.proofs.Listed.{first-unique, first-below, first-in, later-in, not-first, in-either, differs}
@@ -239,7 +239,7 @@ module _ (h : Shape) (d : Recovery) (new : ℕ) (seven : h .replicas ≤ 7) (top
     pub tried : (i : ℕ) → contains is i ≡ true → Tried h d new t (after-all t is) i
 
   pub prepare-all : (is : List ℕ) (t : Trail) → Underway h d new t
-      → repeats is ≡ false → unlisted (h .replicas) is ≡ false
+      → repeats is ≡ false → notBelow (h .replicas) is ≡ false
       → ((i : ℕ) → contains is i ≡ true → Waiting h d t i)
       → ((k : ℕ) → k < after-all t is .count → fateAt d k ≡ Answered)
       → All t is

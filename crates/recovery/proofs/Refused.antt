@@ -1,7 +1,7 @@
 -- Condition 1 for a recovery. Document 02, No. 9: "The driver itself declines only by 1 to 5 and 29; another number is its last call's."
 --   It makes no call exactly if a row of its own list holds; then the first such row gives its reply, and nothing is changed. The list follows the papers' order.
---   Otherwise its calls meet none of 1 to 5, 7 and 22 where that would be its reply: a take without ok is declined by 6 or 21, an open by 6, 8 or 9. So the number
---   tells who declined.
+--   Otherwise its take and its open meet none of 1 to 5, and the open no 22: a take is declined by 6 or 21 alone, an open by 6, 8 or 9. So the number tells who
+--   declined.
 -- In any state with four servers, as the type says. The statement comes first; the theorem is `refused`.
 -- Assumes nothing.
 use mathlib.Core.Path.{_≡_, refl, sym, ap, _∙_, subst, subst⁻¹}
@@ -44,7 +44,9 @@ pub record Refused (h : Shape) (x : State) (d : Recovery) : Type 0 where
   -- it makes no call and replies no exactly if the first row of its own list that holds has that number
   pub exactly : (n : ℕ) (values : List ℕ)
       → ((recovered h x d .reply ≡ no n values) × (recovered h x d .count ≡ 0)) ↔ DeclinedBy (recoveryRows h x d) n values
-  -- then nothing is changed
+  -- where none holds, it makes a call
+  pub otherwise : NoneHolds (recoveryRows h x d) → 0 < recovered h x d .count
+  -- without a call nothing is changed
   pub unchanged : recovered h x d .count ≡ 0 → recovered h x d .state ≡ x
   -- "another number is its last call's"
   pub by-take : recovered h x d .count ≡ 1 → (n : ℕ) (values : List ℕ) → recovered h x d .reply ≡ no n values → (n ≡ 6) ⊎ (n ≡ 21)
@@ -165,7 +167,7 @@ module _ (h : Shape) (x : State) (d : Recovery) (four : length (x .records .serv
       let ans = answered-is f (is-answered (answered f) _ values (rw through at q)) in
       taken-underway h d t₀ (A .steady) four through ans (unseen ans (passed (rowsOf h x p) through 21)) (A .server)
 
-  on-its-way : isOk (taken h x d .reply) ≡ true → Underway h d (x .records .register .session + 1) (taken h x d)
+  pub on-its-way : isOk (taken h x d .reply) ≡ true → Underway h d (x .records .register .session + 1) (taken h x d)
   unfolding begun
   on-its-way k = let q = ok-values (taken h x d .reply) k in started (q .0) (q .1)
 
@@ -218,6 +220,7 @@ refused h x d four =
     record {
       ordered = refl;
       exactly = λ n values. (λ (r, z). declined-by h x d n values r z, declines h x d n values);
+      otherwise = λ e. first-call h x d (none-of (recoveryRows h x d) e);
       unchanged = kept h x d;
       by-take = λ z n values r. go (firstOf (recoveryRows h x d)) refl z n values r;
       by-open = λ z n values r. later (firstOf (recoveryRows h x d)) refl z n values r;

@@ -8,7 +8,7 @@ use native.Mathlib.Omega.{arith}
 use lib.ListN.{length}
 use Rattle.cluster.specs.declared.Shape.{Shape}
 use Rattle.cluster.proofs.Marks.{marks-fit}
-use Rattle.recovery.specs.Recovery.{Recovery, Trail, played, serverOf, prepares, highestKnown, firstAt, copiesTo, catchingUp, unlisted}
+use Rattle.recovery.specs.Recovery.{Recovery, Trail, played, serverOf, prepares, highestKnown, firstAt, copiesTo, catchingUp, notBelow}
 use Rattle.recovery.proofs.Counts.{played-count}
 use Rattle.recovery.proofs.Steady.{Steady}
 use Rattle.recovery.proofs.Played.{prepares-length}
@@ -26,7 +26,7 @@ module _ (h : Shape) (d : Recovery) where
       omega (arith, ap (λ (u : Trail). u .count) e, played-count h t ps, to-most h d a m b t)
 
   -- the mark that is copied up to is at most N
-  pub highest-within : (t : Trail) → Steady h (t .state) → d .server < 4 → unlisted (h .replicas) (d .listed) ≡ false → highestKnown (serverOf d t) (d .listed) ≤ h .places
+  pub highest-within : (t : Trail) → Steady h (t .state) → d .server < 4 → notBelow (h .replicas) (d .listed) ≡ false → highestKnown (serverOf d t) (d .listed) ≤ h .places
   highest-within t s l e = highest-le h (serverOf d t) (d .listed) e (marks-fit h (t .state .records) (d .server) l (s .fits) .marks)
 
   -- with that mark at most n

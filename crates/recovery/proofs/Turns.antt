@@ -1,5 +1,5 @@
 -- A copy with ok raises the mark of the replica that it writes by one or more (handed-in media may hold valid places behind it). So as many turns as the replica
--- lacks are enough: with more of them the same calls are made (`turns-enough`), and copying ends because the mark is reached or a copy is without ok.
+-- lacks are enough, once a recovery is on its way: with more of them the same calls are made (`turns-enough`; of every recovery TurnsEnough.antt).
 -- Assumes nothing.
 use mathlib.Core.Path.{_≡_, refl, sym, ap, _∙_, subst, subst⁻¹}
 use mathlib.Core.Bool.{Bool, true, false, not, cond, _&&_, _||_, false≢true}

@@ -3,11 +3,11 @@
 -- Its count then is 2 + listed replicas + the sum over known ones of what each lacked of the highest mark after prepare."
 -- It is about every state that the running calls can be handed, not only those that a list of calls from a fresh cluster leaves.
 -- Assumes nothing.
-use Prim.Native.Nat.{ℕ, _+_, _-_, _^_, _≤_, _<_}
+use Prim.Native.Nat.{ℕ, _+_, _^_, _≤_, _<_}
 use mathlib.Core.Path.{_≡_}
 use mathlib.Core.List.{List, [], _∷_}
 use mathlib.Core.Bool.{Bool, true, false, not, cond, _&&_}
-use lib.ListN.{length}
+use lib.ListN.{length, getD}
 use Rattle.octets.specs.Octets.{Bytes}
 use Rattle.base.specs.Below.{bit}
 use Rattle.fate.specs.declared.Fate.the-variants.{Answered}
@@ -21,7 +21,7 @@ use Rattle.cluster.specs.declared.Phase.the-variants.{Open}
 use Rattle.cluster.specs.State.{State, serverAt, activeAt}
 use Rattle.cluster.specs.Replies.{ok}
 use Rattle.cluster.specs.Refusals.{noSlot, promiseAbove, sessionAtTop, pass, firstOf}
-use Rattle.recovery.specs.Recovery.{Recovery, Trail, played, one, fateAt, taking, prepares, serverOf, highestKnown, lacks, contains, recoveryRows, begun, recovered}
+use Rattle.recovery.specs.Recovery.{Recovery, Trail, played, one, taking, prepares, serverOf, highestKnown, lacks, contains, recoveryRows, begun, recovered}
 
 -- what the types of the running calls say of a state: four servers, a session of 64 bits, media of bytes
 pub record Typed (x : State) : Type 0 where
@@ -57,8 +57,8 @@ lacking v m (i ∷ is) = cond (activeAt v i) (lacks v m i) 0 + lacking v m is
 
 pub record Met (h : Shape) (x : State) (d : Recovery) : Type 0 where
   pub admitted : firstOf (recoveryRows h x d) ≡ pass  -- "If it isn't declined"
-  pub answered : (k : ℕ) → k < recovered h x d .count → fateAt d k ≡ Answered  -- "all messages are answered": of the calls that it makes
-  pub below-top : sessionAtTop (x .records .register .session) ≡ false  -- "no number is at its top"
+  pub answered : (k : ℕ) → k < recovered h x d .count → getD (d .fates) k Answered ≡ Answered  -- "all messages are answered": of the calls that it makes
+  pub below-top : sessionAtTop (x .records .register .session) ≡ false  -- "no number is at its top": take raises the session alone
   pub clean : (i : ℕ) → contains (d .listed) i ≡ true  -- "no valid place lies above a listed mark"
       → let m = mediumAt (h .places) i (x .media) in (n : ℕ) → markOf (h .places) m < n → n ≤ h .places → validPlace n (placeAt n m) ≡ false
   pub enough : quorum (h .replicas) ≤ howMany (ready h x) (d .listed)  -- "at least Q of the replicas listed have .."

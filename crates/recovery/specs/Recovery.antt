@@ -2,20 +2,16 @@
 -- fates". What a recovery is, is the list of the calls that it makes, each of which follows from the state before it (`callsOf`); what it leaves is what
 -- `step` leaves, one call after another (`recovered`).
 -- Assumes nothing.
-use Prim.Native.Nat.{ℕ, zero, suc, _+_, _-_, _*_, _/_, _%_, max}
-use mathlib.Core.List.{List, [], _∷_, _++_, map}
+use Prim.Native.Nat.{ℕ, zero, suc, _+_, _-_, _*_, max}
+use mathlib.Core.List.{List, [], _∷_, _++_}
 use mathlib.Core.Bool.{Bool, true, false, not, cond, _&&_, _||_}
 use lib.ListN.{length, getD, replicate}
 use lib.Dec.{ltb, eqb}
 use Rattle.octets.specs.Octets.{part}
 use Rattle.fate.specs.declared.Fate.{Fate}
-use Rattle.fate.specs.declared.Fate.the-variants.{Answered, Lost, AnswerLost, Cut}
-use Rattle.fate.specs.declared.Left.{Left}
-use Rattle.fate.specs.declared.Left.the-variants.{Old, New, Torn}
+use Rattle.fate.specs.declared.Fate.the-variants.{Answered}
 use Rattle.storage.specs.Sizes.{placeSize}
-use Rattle.segment.specs.declared.header.Stamp.{Stamp}
 use Rattle.segment.specs.Header.{keySize}
-use Rattle.segment.specs.Pair.{Files}
 use Rattle.cluster.specs.declared.Shape.{Shape}
 use Rattle.cluster.specs.declared.Server.{Server}
 use Rattle.cluster.specs.declared.Call.{Call}
@@ -23,7 +19,7 @@ use Rattle.cluster.specs.declared.Call.the-variants as call
 use Rattle.cluster.specs.State.{State, serverAt, markAt, activeAt}
 use Rattle.cluster.specs.Replies.{Reply, ok, no, silent}
 use Rattle.cluster.specs.Refusals.{Input, Row, row, outside, markAbove, noServerAt, noReplicaAt, onlyIdle, wrongPhase, Verdict, pass, declined, firstOf}
-use Rattle.cluster.specs.Effects.{Result, noBytes}
+use Rattle.cluster.specs.Effects.{noBytes}
 use Rattle.cluster.specs.Step.{step}
 
 -- ================ what a recovery is asked for
@@ -34,22 +30,6 @@ pub record Recovery : Type 0 where
   pub listed : List ℕ
   pub fates : List Fate
   pub given : List ℕ
-
--- The number k is lent for a fate, since no list of fates can be: 0 answered, 1 lost, 2 done with the answer lost, 3 + 3 × w + l cut at write w, which leaves
--- the slot or place old (l = 0), new (1) or holding the given bytes (2). Every number is a fate's.
-abbrev pub leftOf : ℕ → Left
-leftOf zero = Old
-leftOf (suc zero) = New
-leftOf (suc (suc l)) = Torn
-
-abbrev pub fateOf : ℕ → Fate
-fateOf zero = Answered
-fateOf (suc zero) = Lost
-fateOf (suc (suc zero)) = AnswerLost
-fateOf (suc (suc (suc n))) = Cut (n / 3) (leftOf (n % 3))
-
-abbrev pub fatesOf : List ℕ → List Fate
-fatesOf ks = map fateOf ks
 
 -- ================ its calls
 
@@ -122,7 +102,7 @@ firstAt v m [] = 0
 firstAt v m (i ∷ is) = cond (activeAt v i && eqb (markAt v i) m) i (firstAt v m is)
 
 -- "copies each known replica .. up to" the mark m, from a to b: a copy while b is below it, until one is without ok. There are at most so many turns; at most
--- what b lacks are needed, since each copy with ok brings at least one record (proofs/Turns `turns-enough`).
+-- what b lacks are needed, since each copy with ok brings at least one record (proofs/TurnsEnough `enough`).
 unfoldable pub copies : Shape → Recovery → ℕ → ℕ → ℕ → ℕ → Trail → List Input
 copies h d a m b zero t = []
 copies h d a m b (suc turns) t =
@@ -177,9 +157,9 @@ namesNone [] = true
 namesNone (i ∷ is) = false
 
 -- 4 "A listed number not below R meets refusal 4"
-unfoldable pub unlisted : ℕ → List ℕ → Bool
-unlisted r [] = false
-unlisted r (i ∷ is) = noReplicaAt r i || unlisted r is
+unfoldable pub notBelow : ℕ → List ℕ → Bool
+notBelow r [] = false
+notBelow r (i ∷ is) = noReplicaAt r i || notBelow r is
 
 -- 1 "or a lent slice has another length": the given bytes are 72 for each fate
 abbrev pub otherGiven : Recovery → Bool
@@ -191,14 +171,14 @@ recoveryRows h x d =
     row 1 (outside h (length (x .media)) (length (x .tables)) || otherGiven d)
     ∷ row 2 (markAbove h (x .records))
     ∷ row 3 (noServerAt (d .server))
-    ∷ row 4 (unlisted (h .replicas) (d .listed))
+    ∷ row 4 (notBelow (h .replicas) (d .listed))
     ∷ row 5 (wrongPhase onlyIdle (serverAt (x .records) (d .server)))
     ∷ row 29 (repeats (d .listed) || namesNone (d .listed))
     ∷ []
 
 -- ================ a recovery
 
--- a recovery that is declined makes no call, and that is its reply; before the first call of another there is none
+-- a recovery that is declined makes no call, and its reply is its own (for another silent stands there until its first call, and is never given)
 abbrev pub own : Verdict → Reply
 own pass = silent
 own (declined n values) = no n values

@@ -15,8 +15,8 @@ returns c =
     let a = c .before .before .before .before .before .before .before .args in
     by-given (a .shape) (stateOf (a .records) (a .media .now) (a .tables .now)) (a .server) (a .listed .now) (a .fates .now) (a .given .now) (c .before .other-given .ensures) (c .if1 .taken)
 
-unlisted-requires : tie.Need-unlisted-requires
-unlisted-requires c κs = search needs
+not-below-requires : tie.Need-not-below-requires
+not-below-requires c κs = search needs
 
 admit-replica-requires : tie.Need-admit-replica-requires
 admit-replica-requires c κs = search needs
@@ -29,7 +29,7 @@ returns-2 c =
     let u = c .before .before .before in
     let a = u .before .before .before .before .before .before .before .before .args in
     by-replica (a .shape) (stateOf (a .records) (a .media .now) (a .tables .now)) (a .server) (a .listed .now) (a .fates .now) (a .given .now) (u .before .before .other-given .ensures) (u .before .if1 .left)
-    (u .unlisted .ensures) (c .before .before .admit-replica .ensures (a .media .now) (a .tables .now) refl refl) (ap verdictOf (c .enum-told .given .1))
+    (u .not-below .ensures) (c .before .before .admit-replica .ensures (a .media .now) (a .tables .now) refl refl) (ap verdictOf (c .enum-told .given .1))
 
 enum-told-2 : tie.Need-enum-told-2
 enum-told-2 c = search needs
@@ -45,7 +45,7 @@ returns-3 c =
     let u = c .before .before .before .before .before in
     let a = u .before .before .before .before .before .before .before .before .args in
     by-list (a .shape) (stateOf (a .records) (a .media .now) (a .tables .now)) (a .server) (a .listed .now) (a .fates .now) (a .given .now) (u .before .before .other-given .ensures) (u .before .if1 .left)
-    (u .unlisted .ensures) (c .before .before .before .before .admit-replica .ensures (a .media .now) (a .tables .now) refl refl) (c .before .unfit-list .ensures) (c .also .ensures)
+    (u .not-below .ensures) (c .before .before .before .before .admit-replica .ensures (a .media .now) (a .tables .now) refl refl) (c .before .unfit-list .ensures) (c .also .ensures)
 
 pub admit-recovery-spec : {M : Type 1} → statement M
 admit-recovery-spec =
@@ -53,7 +53,7 @@ admit-recovery-spec =
     (tie.spec
     other-given-requires
     returns
-    unlisted-requires
+    not-below-requires
     admit-replica-requires
     enum-told
     returns-2

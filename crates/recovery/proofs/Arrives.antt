@@ -4,18 +4,17 @@
 -- that are absent are fewer than Q: the mark is decided, and Q are clean (Opening).
 -- Assumes nothing.
 use mathlib.Core.Path.{_≡_, refl, sym, ap, _∙_, subst, subst⁻¹}
-use mathlib.Core.Bool.{Bool, true, false, not, cond, _&&_, _||_, false≢true}
-use mathlib.Core.Logic.{_⊎_, inl, inr, ⊎-elim}
-use mathlib.Core.List.{List, [], _∷_, _++_}
-use Prim.Native.Nat.{ℕ, zero, suc, _+_, _*_, _^_, _≤_, _<_}
+use mathlib.Core.Bool.{Bool, true, false, not, cond, _&&_, false≢true}
+use mathlib.Core.Logic.{inl, inr, ⊎-elim}
+use mathlib.Core.List.{List, []}
+use Prim.Native.Nat.{ℕ, _+_, _*_, _^_, _≤_, _<_}
 use native.Mathlib.Omega.{arith}
 use lib.ListN.{length}
-use lib.Dec.{eqb}
-use borrow.Author.Tests.{eqb-false, not-true, not-false}
+use borrow.Author.Tests.{eqb-false, not-true}
 use Rattle.base.specs.Below.{bit, count}
 use Rattle.base.proofs.Below.{count-mono, count-some}
 use Rattle.base.proofs.Same.{count-same}
-use Rattle.base.proofs.Tests.{both, neither}
+use Rattle.base.proofs.Tests.{both}
 use Rattle.octets.specs.Octets.{Bytes}
 use Rattle.octets.proofs.Reading.{bytes-part}
 use Rattle.fate.specs.declared.Fate.the-variants.{Answered}
@@ -25,19 +24,17 @@ use Rattle.storage.specs.Operations.{mediumAt}
 use Rattle.quorum.specs.Vote.{quorum}
 use Rattle.cluster.specs.declared.Shape.{Shape}
 use Rattle.cluster.specs.State.{State, markAt, activeAt, votesAt}
-use Rattle.cluster.specs.Replies.{ok}
-use Rattle.cluster.specs.Refusals.{Input, noSlot, promiseAbove, sessionAtTop, refusesPrepare, rowsOf, pass, firstOf}
-use Rattle.cluster.proofs.Rows.{passed}
+use Rattle.cluster.specs.Refusals.{Input, noSlot, promiseAbove, refusesPrepare, rowsOf, pass, firstOf}
 use Rattle.cluster.proofs.AsStored.{media-size}
-use Rattle.recovery.specs.Recovery.{Recovery, Trail, fateAt, one, played, taking, opening, isOk, serverOf, prepares, highestKnown, firstAt, catchingUp, afterTake, fromTake, contains, repeats, namesNone, notBelow, recoveryRows, begun, callsOf, recovered}
-use Rattle.recovery.specs.Arrival.{Typed, ready, howMany, taken, prepared, highestMark, lacking, Met, Arrived, Arrives}
+use Rattle.recovery.specs.Recovery.{Recovery, Trail, fateAt, one, played, taking, opening, isOk, serverOf, prepares, firstAt, catchingUp, afterTake, fromTake, contains, recoveryRows, begun, callsOf, recovered}
+use Rattle.recovery.specs.Arrival.{Typed, ready, taken, prepared, highestMark, lacking, Met, Arrived, Arrives}
 use Rattle.recovery.proofs.Counts.{played-count, played-more}
 use Rattle.recovery.proofs.Played.{prepares-length, afterTake-is}
-use Rattle.recovery.proofs.Steady.{Steady, medium-size}
+use Rattle.recovery.proofs.Steady.{medium-size}
 use Rattle.recovery.proofs.Own.{Admitted, own, take-rows}
 use Rattle.recovery.proofs.Listed.{listed-below}
 use Rattle.recovery.proofs.Highest.{highest-ge, Has, source-has, many-listed}
-use Rattle.recovery.proofs.Underway.{Underway, Good, Same, taken-underway, taken-none, taken-media, taken-reply}
+use Rattle.recovery.proofs.Underway.{Underway, Good, taken-underway, taken-none, taken-media, taken-reply}
 use Rattle.recovery.proofs.Preparing as preparing
 use Rattle.recovery.proofs.Copying as copying
 use Rattle.recovery.proofs.Opening.{Odd, odd-replicas, opens, is-open}

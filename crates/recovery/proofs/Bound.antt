@@ -1,10 +1,10 @@
 -- A recovery ends: in any state that is handed in, under all fates, it makes at most 2 + R + R × N calls (`bounded`). One take, one prepare for each listed
 -- replica, of which there are at most R, at most N copies for each, and one open.
 -- Assumes nothing.
-use mathlib.Core.Path.{_≡_, refl, ap, _∙_, subst⁻¹}
+use mathlib.Core.Path.{_≡_, refl}
 use mathlib.Core.Bool.{Bool, true, false, cond, _&&_}
 use mathlib.Core.List.{List, [], _∷_, _++_}
-use Prim.Native.Nat.{ℕ, zero, suc, _+_, _-_, _*_, _≤_, _<_, max}
+use Prim.Native.Nat.{ℕ, zero, suc, _+_, _*_, _≤_, _<_}
 use native.Mathlib.Nat.{mul-le-mul-right, mul-le-mul-left}
 use native.Mathlib.Omega.{arith}
 use lib.ListN.{length, length-append}
@@ -13,10 +13,10 @@ use Rattle.base.specs.Below.{count}
 use Rattle.base.proofs.Below.{count-le}
 use Rattle.cluster.specs.declared.Shape.{Shape}
 use Rattle.cluster.specs.declared.Server.{Server}
-use Rattle.cluster.specs.State.{State, serverAt, markAt, activeAt}
-use Rattle.cluster.specs.Refusals.{Input, Verdict, pass, declined, firstOf}
+use Rattle.cluster.specs.State.{State, markAt, activeAt}
+use Rattle.cluster.specs.Refusals.{Verdict, pass, declined, firstOf}
 use Rattle.cluster.proofs.Marks.{marks-fit}
-use Rattle.recovery.specs.Recovery.{Recovery, Trail, one, played, preparing, copying, opening, taking, isOk, serverOf, prepares, highestKnown, firstAt, copies, lacks, copiesTo, allCopies, catchingUp, afterTake, fromTake, contains, repeats, notBelow, recoveryRows, begun, unlessDeclined, callsOf, recovered}
+use Rattle.recovery.specs.Recovery.{Recovery, Trail, one, played, preparing, copying, opening, isOk, serverOf, prepares, highestKnown, firstAt, copies, lacks, copiesTo, allCopies, catchingUp, afterTake, fromTake, contains, repeats, notBelow, recoveryRows, begun, unlessDeclined, callsOf, recovered}
 use Rattle.recovery.specs.Arrival.{howMany, taken}
 use Rattle.recovery.proofs.Counts.{played-count}
 use Rattle.recovery.proofs.Steady.{Steady, steady-take, steady-prepare}

@@ -2,14 +2,13 @@
 -- those of all.
 -- Assumes nothing.
 use mathlib.Core.Path.{_≡_, refl, sym, ap, ap₂, _∙_, subst, subst⁻¹}
-use mathlib.Core.Bool.{Bool, true, false, not, cond, _&&_, _||_, false≢true}
+use mathlib.Core.Bool.{true, false, not, cond, false≢true}
 use mathlib.Core.Logic.{_⊎_, inl, inr, ⊎-elim}
-use mathlib.Core.List.{List, [], _∷_, _++_}
-use Prim.Native.Nat.{ℕ, zero, suc, _+_, _-_, _*_, _^_, _≤_, _<_}
+use mathlib.Core.List.{List, [], _∷_}
+use Prim.Native.Nat.{ℕ, zero, suc, _+_, _*_, _≤_, _<_}
 use native.Mathlib.Omega.{arith}
 use native.Mathlib.Decide.{ℕ-discrete}
 use lib.ListN.{length, length-append}
-use lib.Dec.{eqb, leb, ltb}
 use borrow.Author.Tests.{le-ltb, lt-ltb, lt-leb, eq-eqb, ne-eqb}
 use Rattle.fate.specs.declared.Fate.the-variants.{Answered}
 use Rattle.fate.specs.Fates.{allOf, after}
@@ -20,25 +19,23 @@ use Rattle.storage.specs.declared.slot.Current.the-variants.{First, Second, Nei
 use Rattle.storage.specs.Sizes.{placeSize, mediumSize}
 use Rattle.storage.specs.Places.{validPlace, wiped}
 use Rattle.storage.specs.Slots.{currentOf, storedSlot, HasSlot}
-use Rattle.storage.specs.Log.{placeAt, logOf, markOf, Sound}
+use Rattle.storage.specs.Log.{placeAt, logOf, markOf}
 use Rattle.storage.specs.Operations.{appendWrites, mediumAt}
-use Rattle.storage.specs.Given.{Harmless}
-use Rattle.storage.proofs.LogWrites.{length-wiped}
 use Rattle.storage.proofs.Scan.{mark-le, log-valid}
 use Rattle.storage.proofs.Truncating.{mark-is}
 use Rattle.storage.proofs.Promises.{Appended, appends}
 use Rattle.cluster.specs.declared.Shape.{Shape}
 use Rattle.cluster.specs.declared.Server.{Server}
-use Rattle.cluster.specs.State.{State, serverAt, markAt, activeAt}
+use Rattle.cluster.specs.State.{State, markAt, activeAt}
 use Rattle.cluster.specs.Replies.{ok}
-use Rattle.cluster.specs.Refusals.{Input, isNeither, noSlot, promiseDiffers, markDiffers, refusesAt, rowsOf, pass, firstOf}
+use Rattle.cluster.specs.Refusals.{Input, isNeither, noSlot, promiseDiffers, markDiffers, rowsOf, pass, firstOf}
 use Rattle.cluster.specs.Effects.{withReplica, withMediumAndServer, appendEffect}
 use Rattle.cluster.specs.Step.{unless, step}
 use Rattle.cluster.proofs.AsStored.{media-size, place-length}
 use Rattle.recovery.specs.Recovery.{Recovery, Trail, fateAt, one, played, copying, isOk, serverOf, copies, lacks, copiesTo, allCopies, contains, repeats, notBelow}
 use Rattle.recovery.specs.Arrival.{lacking}
 use Rattle.recovery.proofs.Steady.{steady-copy, medium-size}
-use Rattle.recovery.proofs.Counts.{played-more, played-join, played-count}
+use Rattle.recovery.proofs.Counts.{played-more, played-join}
 use Rattle.recovery.proofs.Listed.{first-unique, first-below, first-in, later-in, not-first, in-either, differs}
 use Rattle.recovery.proofs.Underway.{Underway, Good, Same, same-state, same-then, still-good, heard-underway, heard-other, heard-now, heard-good}
 use Rattle.recovery.proofs.Preparing.{harmless}

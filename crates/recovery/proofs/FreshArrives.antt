@@ -1,7 +1,7 @@
 -- A RECOVERY OF A FRESH CLUSTER ARRIVES, if it is not declined, lists at least Q replicas and no fates are given: it opens at 0. So what `arrives` asks for can be
 -- met. The statement comes first; the theorem is `fresh-arrives`.
 -- Assumes nothing.
-use mathlib.Core.Path.{_≡_, refl, sym, ap, _∙_, subst⁻¹}
+use mathlib.Core.Path.{_≡_, refl, ap, _∙_, subst⁻¹}
 use mathlib.Core.Bool.{Bool, true, false, not, _&&_}
 use mathlib.Core.List.{List, [], _∷_, _++_}
 use Prim.Native.Nat.{ℕ, zero, suc, _+_, _*_, _≤_, _<_}
@@ -26,9 +26,9 @@ use Rattle.storage.specs.Operations.{mediumAt}
 use Rattle.storage.proofs.Fresh.{fresh-medium}
 use Rattle.quorum.specs.Vote.{quorum}
 use Rattle.cluster.specs.declared.Shape.{Shape}
-use Rattle.cluster.specs.State.{State, freshMedia, fresh}
+use Rattle.cluster.specs.State.{freshMedia, fresh}
 use Rattle.cluster.specs.Refusals.{noSlot, promiseAbove, pass, firstOf}
-use Rattle.recovery.specs.Recovery.{Recovery, contains, notBelow, recoveryRows, recovered}
+use Rattle.recovery.specs.Recovery.{Recovery, contains, recoveryRows}
 use Rattle.recovery.specs.Arrival.{Typed, ready, howMany, Met, Arrived}
 use Rattle.recovery.proofs.Own.{own}
 use Rattle.recovery.proofs.Listed.{first-in, later-in, listed-below}

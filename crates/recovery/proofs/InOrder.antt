@@ -2,23 +2,20 @@
 -- it, and opens." Whatever the fates and the replies: a take; a prepare of each listed replica, in the order of the list; copies from one source, to one replica
 -- to its end before the next, in the order of the list; one open. The statement comes first; the theorem is `in-order`. Which source: `first-source`.
 -- Assumes nothing.
-use mathlib.Core.Path.{_≡_, refl, sym, ap, ap₂, _∙_, subst, subst⁻¹}
+use mathlib.Core.Path.{_≡_, refl, ap, ap₂, _∙_}
 use mathlib.Core.Bool.{Bool, true, false, cond, _&&_}
-use mathlib.Core.Logic.{_⊎_, inl, inr}
 use mathlib.Core.List.{List, [], _∷_, _++_, map}
-use Prim.Native.Nat.{ℕ, zero, suc, _+_, _*_, _≤_, _<_}
-use native.Mathlib.Omega.{arith}
-use lib.ListN.{length, getD, replicate}
+use Prim.Native.Nat.{ℕ, zero, suc}
+use lib.ListN.{replicate}
 use lib.Dec.{ltb, eqb}
-use Rattle.fate.specs.declared.Fate.{Fate}
 use Rattle.fate.specs.declared.Fate.the-variants.{Answered}
 use Rattle.cluster.specs.declared.Shape.{Shape}
 use Rattle.cluster.specs.declared.Server.{Server}
 use Rattle.cluster.specs.declared.Call.{Call}
 use Rattle.cluster.specs.declared.Call.the-variants as call
 use Rattle.cluster.specs.State.{State, markAt, activeAt}
-use Rattle.cluster.specs.Refusals.{Input, Verdict, pass, declined, firstOf}
-use Rattle.recovery.specs.Recovery.{Recovery, Trail, one, played, taking, preparing, copying, opening, isOk, serverOf, contains, prepares, highestKnown, firstAt, copies, copiesTo, lacks, allCopies, catchingUp, afterTake, fromTake, recoveryRows, begun, unlessDeclined, callsOf, recovered}
+use Rattle.cluster.specs.Refusals.{Input, pass, firstOf}
+use Rattle.recovery.specs.Recovery.{Recovery, Trail, one, played, preparing, copying, opening, isOk, serverOf, contains, prepares, highestKnown, firstAt, copies, copiesTo, lacks, allCopies, catchingUp, afterTake, fromTake, recoveryRows, callsOf}
 use Rattle.recovery.specs.Arrival.{taken}
 use Rattle.recovery.proofs.Listed.{first-in, later-in}
 

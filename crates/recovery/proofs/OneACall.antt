@@ -2,16 +2,15 @@
 -- whatever became of those before it, has the k-th fate of the list and the k-th 72 of the bytes beside it; behind the end of the list it is answered. And it is
 -- a take, a prepare, a copy or an open. The statement comes first; the theorem is `one-a-call`.
 -- Assumes nothing.
-use mathlib.Core.Path.{_≡_, refl, sym, ap, _∙_, subst, subst⁻¹}
+use mathlib.Core.Path.{_≡_, refl, subst}
 use mathlib.Core.Bool.{Bool, true, false, cond}
-use mathlib.Core.List.{List, [], _∷_, _++_, map}
-use Prim.Native.Nat.{ℕ, zero, suc, _+_, _*_, _≤_, _<_}
+use mathlib.Core.List.{List, [], _∷_, _++_}
+use Prim.Native.Nat.{ℕ, zero, suc, _+_, _*_, _<_}
 use native.Mathlib.Omega.{arith}
-use lib.ListN.{length, getD, length-append}
+use lib.ListN.{length, getD}
 use lib.Dec.{ltb}
 use borrow.Author.Tests.{lt-ltb}
 use Rattle.octets.specs.Octets.{part}
-use Rattle.fate.specs.declared.Fate.{Fate}
 use Rattle.fate.specs.declared.Fate.the-variants.{Answered}
 use Rattle.storage.specs.Sizes.{placeSize}
 use Rattle.cluster.specs.declared.Shape.{Shape}
@@ -19,7 +18,7 @@ use Rattle.cluster.specs.declared.Call.{Call}
 use Rattle.cluster.specs.declared.Call.the-variants as call
 use Rattle.cluster.specs.State.{State, markAt, activeAt}
 use Rattle.cluster.specs.Refusals.{Input, Verdict, pass, declined, firstOf}
-use Rattle.recovery.specs.Recovery.{Recovery, Trail, fateAt, givenAt, one, played, taking, preparing, copying, opening, isOk, serverOf, prepares, copies, copiesTo, lacks, allCopies, catchingUp, afterTake, fromTake, recoveryRows, begun, unlessDeclined, callsOf, recovered}
+use Rattle.recovery.specs.Recovery.{Recovery, Trail, fateAt, givenAt, one, played, taking, preparing, copying, opening, isOk, serverOf, prepares, copies, copiesTo, lacks, allCopies, catchingUp, afterTake, fromTake, recoveryRows, begun, unlessDeclined, callsOf}
 use Rattle.recovery.proofs.Counts.{played-count}
 
 -- ---- the statement

@@ -1,10 +1,10 @@
 -- An open, answered, of a server whose known replicas all stand at one mark and are at least Q: it answers that mark.
 -- Assumes nothing.
 use mathlib.Core.Path.{_≡_, refl, sym, ap, _∙_}
-use mathlib.Core.Bool.{Bool, true, false, not, cond, _&&_, _||_, false≢true}
-use mathlib.Core.Logic.{_⊎_, inl, inr, ⊎-elim}
-use mathlib.Core.List.{List, [], _∷_}
-use Prim.Native.Nat.{ℕ, zero, suc, _+_, _-_, _≤_, _<_}
+use mathlib.Core.Bool.{Bool, true, false, not, _&&_, _||_}
+use mathlib.Core.Logic.{⊎-elim}
+use mathlib.Core.List.{[], _∷_}
+use Prim.Native.Nat.{ℕ, suc, _+_, _-_, _≤_, _<_}
 use native.Mathlib.Omega.{arith}
 use lib.Seq.{getD-set-same}
 use lib.Dec.{eqb, leb, ltb}
@@ -14,12 +14,12 @@ use Rattle.base.proofs.Below.{count-le}
 use Rattle.base.proofs.Same.{count-same}
 use Rattle.base.proofs.Tests.{neither, either}
 use Rattle.fate.specs.declared.Fate.the-variants.{Answered}
-use Rattle.quorum.specs.Vote.{quorum, reach, majorityMark, decided}
+use Rattle.quorum.specs.Vote.{quorum, reach, decided}
 use Rattle.quorum.proofs.Reach.{reach-none, majority-is}
 use Rattle.cluster.specs.declared.Shape.{Shape}
 use Rattle.cluster.specs.declared.Server.{Server}
 use Rattle.cluster.specs.declared.Phase.the-variants.{Open}
-use Rattle.cluster.specs.State.{State, noServer, serverAt, markAt, activeAt, votesAt}
+use Rattle.cluster.specs.State.{noServer, markAt, activeAt, votesAt}
 use Rattle.cluster.specs.Replies.{ok}
 use Rattle.cluster.specs.Refusals.{replicasFit, outside, undecided, voteMark, cleanAt, tooFewClean, sessionDiffers, rowsOf, pass, firstOf}
 use Rattle.cluster.specs.Effects.{openedServer, openEffect}

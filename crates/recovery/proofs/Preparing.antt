@@ -1,19 +1,17 @@
 -- A prepare that is answered: a replica with a valid slot and a promise not above the session becomes a good one, and another is passed over. Then all prepares
 -- of a list, one after another.
 -- Assumes nothing.
-use mathlib.Core.Path.{_≡_, refl, sym, ap, _∙_, subst, subst⁻¹}
-use mathlib.Core.Bool.{Bool, true, false, not, cond, _&&_, _||_, false≢true}
-use mathlib.Core.Logic.{_⊎_, inl, inr, ⊎-elim}
-use mathlib.Core.List.{List, [], _∷_, _++_}
-use Prim.Native.Nat.{ℕ, zero, suc, _+_, _*_, _^_, _≤_, _<_}
+use mathlib.Core.Path.{_≡_, refl, sym, ap, _∙_, subst⁻¹}
+use mathlib.Core.Bool.{Bool, true, false, cond, _||_, false≢true}
+use mathlib.Core.Logic.{⊎-elim}
+use mathlib.Core.List.{List, [], _∷_}
+use Prim.Native.Nat.{ℕ, _+_, _*_, _^_, _≤_, _<_}
 use native.Mathlib.Omega.{arith}
-use native.Mathlib.Decide.{ℕ-discrete}
-use lib.ListN.{length, getD, set, take, length-set}
-use lib.Seq.{getD-set-same}
-use lib.Dec.{eqb, leb, ltb, lit<}
+use lib.ListN.{length}
+use lib.Dec.{lit<}
 use borrow.Author.Tests.{ltb-false, le-ltb, lt-leb}
-use Rattle.base.proofs.Tests.{neither, either}
-use Rattle.octets.specs.Octets.{Bytes, part, numbersAt}
+use Rattle.base.proofs.Tests.{neither}
+use Rattle.octets.specs.Octets.{Bytes}
 use Rattle.octets.proofs.Laws.{length-part}
 use Rattle.octets.proofs.Reading.{bytes-part, numbers-fit}
 use Rattle.fate.specs.declared.Fate.the-variants.{Answered, Cut}
@@ -23,7 +21,7 @@ use Rattle.storage.specs.declared.slot.Slot.{Slot}
 use Rattle.storage.specs.declared.slot.Current.{Current}
 use Rattle.storage.specs.declared.slot.Current.the-variants.{First, Second, Neither}
 use Rattle.storage.specs.declared.operation.Target.{Target}
-use Rattle.storage.specs.Sizes.{slotSize, slotsSize, placeSize, mediumSize, slotLayout}
+use Rattle.storage.specs.Sizes.{slotSize, slotsSize, mediumSize, slotLayout}
 use Rattle.storage.specs.Places.{wiped}
 use Rattle.storage.specs.Slots.{slotOf, currentOf, heldOf, storedSlot, HasSlot, FittingSlot, firstOf as firstSlot, secondOf as secondSlot}
 use Rattle.storage.specs.Log.{markOf, Sound}
@@ -33,16 +31,15 @@ use Rattle.storage.proofs.LogWrites.{length-wiped}
 use Rattle.storage.proofs.Promises.{Prepared, Closed, prepares, prepares-all}
 use Rattle.cluster.specs.declared.Shape.{Shape}
 use Rattle.cluster.specs.declared.Server.{Server}
-use Rattle.cluster.specs.declared.Phase.the-variants.{Opening}
-use Rattle.cluster.specs.State.{State, noServer, serverAt, entryAt, markAt, activeAt}
+use Rattle.cluster.specs.State.{State, entryAt, activeAt}
 use Rattle.cluster.specs.Replies.{ok}
-use Rattle.cluster.specs.Refusals.{outside, markAbove, noSlot, promiseAbove, refusesPrepare, Input, row, rowsOf, Verdict, pass, declined, firstOf}
+use Rattle.cluster.specs.Refusals.{noSlot, promiseAbove, refusesPrepare, Input, row, rowsOf, Verdict, pass, declined, firstOf}
 use Rattle.cluster.specs.Effects.{withReplica, withMediumAndServer, targetOf, prepareEffect}
 use Rattle.cluster.specs.Step.{effect, unless, step}
 use Rattle.cluster.proofs.AsStored.{media-size}
 use Rattle.recovery.specs.Recovery as recovery
 use Rattle.recovery.specs.Recovery.{Recovery, Trail, fateAt, one, played, preparing, serverOf, contains, repeats, notBelow}
-use Rattle.recovery.proofs.Steady.{Steady, steady-prepare, medium-size}
+use Rattle.recovery.proofs.Steady.{steady-prepare}
 use Rattle.recovery.proofs.Counts.{played-more}
 use Rattle.recovery.proofs.Listed.{first-unique, first-below, first-in, later-in, not-first, in-either, differs}
 use Rattle.recovery.proofs.Underway.{Underway, Good, Same, same-state, same-then, still-good, underway-state, heard-underway, heard-other, heard-good}

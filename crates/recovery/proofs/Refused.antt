@@ -4,22 +4,19 @@
 --   declined.
 -- In any state with four servers, as the type says. The statement comes first; the theorem is `refused`.
 -- Assumes nothing.
-use mathlib.Core.Path.{_≡_, refl, sym, ap, _∙_, subst, subst⁻¹}
-use mathlib.Core.Bool.{Bool, true, false, not, cond, _&&_, _||_, false≢true}
+use mathlib.Core.Path.{_≡_, refl, sym, ap, _∙_, subst⁻¹}
+use mathlib.Core.Bool.{Bool, true, false, not, cond, _&&_, false≢true}
 use mathlib.Core.Logic.{_↔_, _⊎_, inl, inr, ⊎-elim}
-use mathlib.Core.List.{List, [], _∷_, _++_, map}
-use Prim.Native.Nat.{ℕ, zero, suc, _+_, _≤_, _<_}
+use mathlib.Core.List.{List, [], _∷_, map}
+use Prim.Native.Nat.{ℕ, _+_, _<_}
 use native.Mathlib.Omega.{arith}
 use lib.ListN.{length}
 use lib.Dec.{eqb}
 use borrow.Author.Tests.{eqb-true, le-ltb, eq-eqb}
-use Rattle.base.proofs.Tests.{either}
 use Rattle.fate.specs.declared.Fate.{Fate}
-use Rattle.fate.specs.declared.Fate.the-variants.{Answered}
 use Rattle.cluster.specs.declared.Shape.{Shape}
-use Rattle.cluster.specs.declared.Server.{Server}
 use Rattle.cluster.specs.State.{State}
-use Rattle.cluster.specs.Replies.{Reply, ok, no, silent}
+use Rattle.cluster.specs.Replies.{ok, no}
 use Rattle.cluster.specs.Refusals.{Input, Row, row, order, isCut, answered, undecided, voteMark, tooFewClean, sessionAtTop, sessionDiffers, rowsOf, Verdict, pass, declined, firstOf}
 use Rattle.cluster.specs.Effects.{takeEffect}
 use Rattle.cluster.specs.Step.{effect, unless, step}
@@ -27,9 +24,9 @@ use Rattle.cluster.proofs.Rows.{passed}
 use Rattle.cluster.proofs.Numbers.{mentions, other-number, ok-passes}
 use Rattle.cluster.proofs.Reading.{is-answered}
 use Rattle.cluster.proofs.Declines.{rowAt, First, NoneHolds, DeclinedBy, follows, none-of, first-of, first-or-none, effect-never-no}
-use Rattle.recovery.specs.Recovery.{Recovery, Trail, fateAt, one, played, taking, opening, isOk, serverOf, prepares, highestKnown, firstAt, catchingUp, afterTake, fromTake, recoveryRows, begun, callsOf, recovered}
+use Rattle.recovery.specs.Recovery.{Recovery, Trail, fateAt, played, taking, opening, isOk, serverOf, prepares, highestKnown, firstAt, catchingUp, recoveryRows, begun, callsOf, recovered}
 use Rattle.recovery.specs.Arrival.{taken, prepared}
-use Rattle.recovery.proofs.Counts.{played-count, played-more}
+use Rattle.recovery.proofs.Counts.{played-more}
 use Rattle.recovery.proofs.Own.{Admitted, own, take-rows}
 use Rattle.recovery.proofs.Underway.{Underway, taken-underway}
 use Rattle.recovery.proofs.Staying.{underway-prepares, underway-all}

@@ -1,21 +1,20 @@
 -- A recovery stays on its way under every fate of every prepare and copy, also where one is declined: the server is opening, with the session that the register
 -- has.
 -- Assumes nothing.
-use mathlib.Core.Path.{_≡_, refl, ap, _∙_, subst, subst⁻¹}
+use mathlib.Core.Path.{_≡_, refl, ap, _∙_, subst⁻¹}
 use mathlib.Core.Bool.{Bool, true, false, cond}
-use mathlib.Core.List.{List, [], _∷_, _++_}
+use mathlib.Core.List.{List, [], _∷_}
 use Prim.Native.Nat.{ℕ, zero, suc}
 use lib.Dec.{ltb}
 use Rattle.fate.specs.declared.Fate.{Fate}
 use Rattle.cluster.specs.declared.Shape.{Shape}
 use Rattle.cluster.specs.declared.Server.{Server}
-use Rattle.cluster.specs.declared.Records.{Records}
 use Rattle.cluster.specs.declared.Phase.{Phase}
 use Rattle.cluster.specs.declared.Phase.the-variants.{Opening}
 use Rattle.cluster.specs.State.{State, putServer, markAt, activeAt}
-use Rattle.cluster.specs.Refusals.{Input, answered, isOpen}
+use Rattle.cluster.specs.Refusals.{answered, isOpen}
 use Rattle.cluster.specs.Effects.{withReplica, afterMessage, acknowledge, prepareEffect, appendEffect}
-use Rattle.cluster.specs.Step.{effect, step}
+use Rattle.cluster.specs.Step.{effect}
 use Rattle.recovery.specs.Recovery.{Recovery, Trail, fateAt, one, played, preparing, copying, isOk, serverOf, prepares, copies, copiesTo, lacks, allCopies}
 use Rattle.recovery.proofs.Steady.{Steady, after-call, steady-prepare, steady-copy}
 use Rattle.recovery.proofs.Counts.{played-join}

@@ -1,16 +1,16 @@
 -- What passes refusals 1 and 2 still passes them after a take, a prepare or a copy: lengths stay, and every mark that is recorded is one that a medium has.
 -- So the calls of a recovery that passed them itself never meet them.
 -- Assumes nothing.
-use mathlib.Core.Path.{_≡_, refl, sym, ap, _∙_, subst, subst⁻¹}
+use mathlib.Core.Path.{_≡_, refl, ap, _∙_, subst⁻¹}
 use mathlib.Core.Bool.{Bool, true, false, not, cond, _&&_, _||_}
 use mathlib.Core.Logic.{_⊎_, inl, inr}
 use mathlib.Core.List.{List, [], _∷_, _++_}
 use Prim.Native.Nat.{ℕ, zero, suc, _+_, _-_, _*_, _≤_, _<_}
 use native.Mathlib.Omega.{arith}
 use lib.ListN.{length, getD, set, take, replicate, length-take}
-use lib.Dec.{leb, ltb, eqb}
+use lib.Dec.{leb, eqb}
 use borrow.Author.Tests.{not-false, leb-true, leb-false, le-leb, ltb-true, ltb-false}
-use Rattle.base.specs.Below.{all, highest}
+use Rattle.base.specs.Below.{all}
 use Rattle.base.proofs.Below.{all-at, highest-ind}
 use Rattle.base.proofs.Tests.{both, neither, lt-or-le}
 use Rattle.octets.specs.Octets.{writeAt}
@@ -25,7 +25,7 @@ use Rattle.storage.specs.declared.slot.Current.{Current}
 use Rattle.storage.specs.declared.operation.Target.{Target}
 use Rattle.storage.specs.declared.operation.Target.the-variants.{Whole, Mark}
 use Rattle.storage.specs.declared.operation.Operation.the-variants as op
-use Rattle.storage.specs.Sizes.{slotSize, placeSize, mediumSize, placeOffset}
+use Rattle.storage.specs.Sizes.{placeSize, mediumSize}
 use Rattle.storage.specs.Slots.{currentOf, storedSlot}
 use Rattle.storage.specs.Log.{placeAt, markOf}
 use Rattle.storage.specs.Operations.{slotWrite, placeWrite, wipes, promising, closing, prepareWrites, writesOf, mediumAt}
@@ -40,12 +40,11 @@ use Rattle.cluster.specs.declared.Register.{Register}
 use Rattle.cluster.specs.declared.Server.{Server}
 use Rattle.cluster.specs.declared.Records.{Records}
 use Rattle.cluster.specs.declared.Call.the-variants as call
-use Rattle.cluster.specs.State.{State, noServer, idleServer, freshEntry, serverAt, putServer, entryAt, markAt, memberAt}
-use Rattle.cluster.specs.Refusals.{Input, outside, closingFits, entriesFit, serverFits, markAbove, noReplicaAt, notTwo, answered, isOpen, sessionAtTop, refusesPrepare, refusesAt, rowsOf, Verdict, pass, declined, firstOf}
-use Rattle.cluster.specs.Effects.{Result, withReplica, afterMessage, mediumAfter, withMediumAndServer, acknowledge, prepareOperation, arrives, raisedSession, openingServer, prepareEffect, appendEffect, takeEffect}
+use Rattle.cluster.specs.State.{State, noServer, idleServer, freshEntry, serverAt, entryAt, markAt, memberAt}
+use Rattle.cluster.specs.Refusals.{Input, outside, closingFits, entriesFit, serverFits, markAbove, answered, isOpen, sessionAtTop, refusesPrepare, refusesAt, rowsOf, Verdict, pass, declined, firstOf}
+use Rattle.cluster.specs.Effects.{withReplica, afterMessage, mediumAfter, withMediumAndServer, acknowledge, prepareOperation, arrives, raisedSession, openingServer, prepareEffect, appendEffect, takeEffect}
 use Rattle.cluster.specs.Step.{effect, unless, step}
 use Rattle.cluster.proofs.Rows.{passed}
-use Rattle.cluster.proofs.Marks.{marks-fit}
 use Rattle.cluster.proofs.Blocks.{room, block-length}
 use Rattle.cluster.proofs.AsStored.{media-size, place-length}
 use Rattle.recovery.specs.Recovery.{Recovery, Trail, fateAt, givenAt, one, taking, preparing, copying}

@@ -1,17 +1,16 @@
 -- A copy with ok raises the mark of the replica that it writes by one or more (handed-in media may hold valid places behind it). So as many turns as the replica
 -- lacks are enough, once a recovery is on its way: with more of them the same calls are made (`turns-enough`; of every recovery TurnsEnough.antt).
 -- Assumes nothing.
-use mathlib.Core.Path.{_≡_, refl, sym, ap, _∙_, subst, subst⁻¹}
-use mathlib.Core.Bool.{Bool, true, false, not, cond, _&&_, _||_, false≢true}
+use mathlib.Core.Path.{_≡_, refl, ap, _∙_, subst, subst⁻¹}
+use mathlib.Core.Bool.{Bool, true, false, cond, _&&_, _||_, false≢true}
 use mathlib.Core.Logic.{⊎-elim}
 use mathlib.Core.List.{List, [], _∷_}
-use Prim.Native.Nat.{ℕ, zero, suc, _+_, _-_, _*_, _≤_, _<_}
+use Prim.Native.Nat.{ℕ, zero, suc, _+_, _≤_, _<_}
 use native.Mathlib.Omega.{arith}
-use native.Mathlib.Decide.{decLt}
 use lib.ListN.{length}
 use lib.Seq.{getD-set-same}
 use lib.Dec.{eqb, leb, ltb}
-use borrow.Author.Tests.{le-ltb, lt-ltb, leb-false, ltb-true, ltb-false, eqb-true, not-false}
+use borrow.Author.Tests.{le-ltb, leb-false, ltb-true, eqb-true, not-false}
 use Rattle.base.proofs.Tests.{neither, lt-or-le}
 use Rattle.octets.specs.Octets.{writeAt}
 use Rattle.fate.specs.declared.Fate.{Fate}
@@ -20,23 +19,22 @@ use Rattle.fate.specs.Fates.{allOf, after}
 use Rattle.storage.specs.Sizes.{placeSize, mediumSize, placeOffset}
 use Rattle.storage.specs.Places.{validPlace}
 use Rattle.storage.specs.Log.{placeAt, markOf}
-use Rattle.storage.specs.Operations.{appendWrites, mediumAt}
+use Rattle.storage.specs.Operations.{mediumAt}
 use Rattle.storage.proofs.Blocks.{place-same, place-other}
 use Rattle.storage.proofs.Scan.{mark-le, log-valid}
 use Rattle.storage.proofs.Marks.{mark-reaches}
 use Rattle.cluster.specs.declared.Shape.{Shape}
 use Rattle.cluster.specs.declared.Server.{Server}
-use Rattle.cluster.specs.State.{State, serverAt, putServer, markAt, activeAt}
+use Rattle.cluster.specs.State.{State, putServer, markAt}
 use Rattle.cluster.specs.Replies.{Reply, ok, no, silent}
-use Rattle.cluster.specs.Refusals.{Input, answered, isOpen, noSlot, promiseDiffers, markDiffers, refusesAt, rowsOf, pass, firstOf}
-use Rattle.cluster.specs.Effects.{withReplica, withMediumAndServer, appendEffect}
+use Rattle.cluster.specs.Refusals.{Input, answered, noSlot, promiseDiffers, markDiffers, rowsOf, pass, firstOf}
+use Rattle.cluster.specs.Effects.{withReplica, appendEffect}
 use Rattle.cluster.specs.Step.{effect, unless, step}
 use Rattle.cluster.proofs.Rows.{passed}
 use Rattle.cluster.proofs.Numbers.{ok-passes}
 use Rattle.cluster.proofs.Reading.{is-answered}
-use Rattle.cluster.proofs.Marks.{marks-fit}
 use Rattle.cluster.proofs.AsStored.{media-size, place-length}
-use Rattle.recovery.specs.Recovery.{Recovery, Trail, fateAt, one, played, copying, isOk, serverOf, copies, lacks}
+use Rattle.recovery.specs.Recovery.{Recovery, Trail, fateAt, one, copying, isOk, serverOf, copies, lacks}
 use Rattle.recovery.proofs.Steady.{medium-size}
 use Rattle.recovery.proofs.Underway.{Underway, set-server}
 use Rattle.recovery.proofs.Staying.{underway-copy}

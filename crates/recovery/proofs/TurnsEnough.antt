@@ -11,7 +11,7 @@ use lib.ListN.{length}
 use Rattle.cluster.specs.declared.Shape.{Shape}
 use Rattle.cluster.specs.State.{State}
 use Rattle.cluster.specs.Refusals.{pass, firstOf}
-use Rattle.recovery.specs.Recovery.{Recovery, Trail, played, isOk, serverOf, copies, lacks, allCopies, recoveryRows}
+use Rattle.recovery.specs.Recovery.{Recovery, played, isOk, serverOf, copies, lacks, allCopies, recoveryRows}
 use Rattle.recovery.specs.Arrival.{taken, prepared}
 use Rattle.recovery.proofs.Own.{own}
 use Rattle.recovery.proofs.Staying.{underway-prepares, underway-all}

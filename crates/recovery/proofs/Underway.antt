@@ -1,31 +1,27 @@
 -- A recovery on its way: what holds from its take to its open, and what is known of the replicas meanwhile.
 -- Assumes nothing.
-use mathlib.Core.Path.{_≡_, refl, sym, ap, _∙_, subst, subst⁻¹}
-use mathlib.Core.Bool.{Bool, true, false, not, cond, _&&_, false≢true}
-use mathlib.Core.Logic.{_⊎_, inl, inr}
+use mathlib.Core.Path.{_≡_, refl, sym, ap, _∙_, subst⁻¹}
+use mathlib.Core.Bool.{Bool, true, false, not, _&&_}
 use mathlib.Core.List.{List, [], _∷_}
-use Prim.Native.Nat.{ℕ, zero, suc, _+_, _*_, _^_, _≤_, _<_}
+use Prim.Native.Nat.{ℕ, _+_, _*_, _≤_, _<_}
 use native.Mathlib.Omega.{arith}
-use lib.ListN.{length, getD, set, replicate, length-set, length-replicate}
+use lib.ListN.{length, getD, set, length-set}
 use lib.Seq.{getD-set-same, getD-set-other}
-use lib.Dec.{eqb}
-use borrow.Author.Tests.{eqb-false, ne-eqb, le-ltb, not-false}
-use Rattle.base.proofs.Tests.{neither}
-use Rattle.octets.specs.Octets.{Bytes}
 use Rattle.fate.specs.declared.Fate.the-variants.{Answered}
 use Rattle.storage.specs.Sizes.{mediumSize}
-use Rattle.storage.specs.Slots.{currentOf, storedSlot, HasSlot}
+use Rattle.storage.specs.Slots.{storedSlot, HasSlot}
 use Rattle.storage.specs.Log.{markOf, Sound}
 use Rattle.storage.specs.Operations.{mediumAt}
 use Rattle.cluster.specs.declared.Shape.{Shape}
+use Rattle.cluster.specs.declared.Register.{Register}
 use Rattle.cluster.specs.declared.Server.{Server}
 use Rattle.cluster.specs.declared.Records.{Records}
 use Rattle.cluster.specs.declared.Phase.the-variants.{Opening}
-use Rattle.cluster.specs.State.{State, noServer, idleServer, serverAt, putServer, markAt, activeAt}
+use Rattle.cluster.specs.State.{State, noServer, serverAt, putServer, markAt, activeAt}
 use Rattle.cluster.specs.Replies.{ok}
-use Rattle.cluster.specs.Refusals.{outside, sessionAtTop, rowsOf, pass, firstOf}
+use Rattle.cluster.specs.Refusals.{sessionAtTop, rowsOf, pass, firstOf}
 use Rattle.cluster.specs.Effects.{withReplica, withMediumAndServer, withRegisterAndServer, takeEffect, openingServer, raisedSession}
-use Rattle.cluster.specs.Step.{effect, unless, step}
+use Rattle.cluster.specs.Step.{unless, step}
 use Rattle.cluster.proofs.Blocks.{block-same, block-other}
 use Rattle.recovery.specs.Recovery.{Recovery, Trail, fateAt, one, taking, serverOf}
 use Rattle.recovery.proofs.Steady.{Steady, steady-take, set-any, equal-at}
@@ -117,62 +113,57 @@ heard-active v i mark l e =
 pub heard-mark : (v : Server) (i mark : ℕ) → i < length (v .marks) → markAt (withReplica v i true false mark) i ≡ mark
 heard-mark v i mark l = getD-set-same (v .marks) i mark 0 l
 
--- ---- the server's record is found again
-
-pub server-again : (x : State) (s : ℕ) (v : Server) → s < length (x .records .servers) → serverAt (putServer (x .records) s v) s ≡ v
-server-again x s v l = getD-set-same (x .records .servers) s v noServer l
-
 -- ---- take
 
-module _ (h : Shape) (d : Recovery) (t : Trail) (steady : Steady h (t .state)) (four : length (t .state .records .servers) ≡ 4) where
+module _ (h : Shape) (d : Recovery) (t : Trail) (steady : Steady h (t .state)) (four : length (t .state .records .servers) ≡ 4)
+    (passes : firstOf (rowsOf h (t .state) (taking d t)) ≡ pass) (answered : fateAt d (t .count) ≡ Answered)
+    (top : sessionAtTop (t .state .records .register .session) ≡ false) where
   abbrev x : State
   x = t .state
 
   abbrev new : ℕ
   new = x .records .register .session + 1
 
-  -- what a take with answer leaves
-  after-take : firstOf (rowsOf h x (taking d t)) ≡ pass → fateAt d (t .count) ≡ Answered → sessionAtTop (x .records .register .session) ≡ false
-      → let g = raisedSession (x .records .register) in one h t (taking d t) ≡ record { state = withRegisterAndServer x (d .server) g (openingServer g); reply = ok (new ∷ []); count = t .count + 1 }
-  unfolding step unless takeEffect
-  after-take e a top = rw (e, a, top)
+  abbrev g : Register
+  g = raisedSession (x .records .register)
 
-  pub taken-underway : firstOf (rowsOf h x (taking d t)) ≡ pass → fateAt d (t .count) ≡ Answered → sessionAtTop (x .records .register .session) ≡ false
-      → d .server < 4 → Underway h d new (one h t (taking d t))
-  taken-underway e a top l =
-      let g = raisedSession (x .records .register) in
-      let q = after-take e a top in
-      let v : serverOf d (one h t (taking d t)) ≡ openingServer g =
-      ap (serverOf d) q ∙ getD-set-same (x .records .servers) (d .server) (openingServer g) noServer (omega (arith, l, four)) in
+  abbrev u : Trail
+  u = one h t (taking d t)
+
+  -- what a take with answer leaves
+  after-take : u ≡ record { state = withRegisterAndServer x (d .server) g (openingServer g); reply = ok (new ∷ []); count = t .count + 1 }
+  unfolding step unless takeEffect
+  after-take = rw (passes, answered, top)
+
+  its-server : d .server < 4 → serverOf d u ≡ openingServer g
+  its-server l = ap (serverOf d) after-take ∙ getD-set-same (x .records .servers) (d .server) (openingServer g) noServer (omega (arith, l, four))
+
+  pub taken-underway : d .server < 4 → Underway h d new u
+  taken-underway l =
+      let v = its-server l in
       record {
         steady = steady-take h d t steady;
-        servers = ap (λ (u : Trail). length (u .state .records .servers)) q ∙ length-set (x .records .servers) (d .server) (openingServer g) ∙ four;
+        servers = ap (λ (z : Trail). length (z .state .records .servers)) after-take ∙ length-set (x .records .servers) (d .server) (openingServer g) ∙ four;
         server = l;
-        phase = ap (λ (u : Server). u .phase) v;
-        session = ap (λ (u : Server). u .session) v;
-        register = ap (λ (u : Trail). u .state .records .register .session) q;
-        known = ap (λ (u : Server). length (u .known)) v;
-        marks = ap (λ (u : Server). length (u .marks)) v;
-        dropped = λ i. ap (λ (u : Server). getD (u .dropped) i false) v ∙ equal-at 7 i false;
+        phase = ap (λ (z : Server). z .phase) v;
+        session = ap (λ (z : Server). z .session) v;
+        register = ap (λ (z : Trail). z .state .records .register .session) after-take;
+        known = ap (λ (z : Server). length (z .known)) v;
+        marks = ap (λ (z : Server). length (z .marks)) v;
+        dropped = λ i. ap (λ (z : Server). getD (z .dropped) i false) v ∙ equal-at 7 i false;
       }
 
   -- the new session knows no replica, and media stay
-  pub taken-none : firstOf (rowsOf h x (taking d t)) ≡ pass → fateAt d (t .count) ≡ Answered → sessionAtTop (x .records .register .session) ≡ false
-      → d .server < 4 → (i : ℕ) → activeAt (serverOf d (one h t (taking d t))) i ≡ false
-  taken-none e a top l i =
-      let g = raisedSession (x .records .register) in
-      let v : serverOf d (one h t (taking d t)) ≡ openingServer g =
-      ap (serverOf d) (after-take e a top) ∙ getD-set-same (x .records .servers) (d .server) (openingServer g) noServer (omega (arith, l, four)) in
+  pub taken-none : d .server < 4 → (i : ℕ) → activeAt (serverOf d u) i ≡ false
+  taken-none l i =
       let z : getD (openingServer g .known) i false ≡ false = equal-at 7 i false in
-      ap (λ (u : Server). activeAt u i) v ∙ ap (λ (b : Bool). b && not (getD (openingServer g .dropped) i false)) z
+      ap (λ (v : Server). activeAt v i) (its-server l) ∙ ap (λ (b : Bool). b && not (getD (openingServer g .dropped) i false)) z
 
-  pub taken-media : firstOf (rowsOf h x (taking d t)) ≡ pass → fateAt d (t .count) ≡ Answered → sessionAtTop (x .records .register .session) ≡ false
-      → one h t (taking d t) .state .media ≡ x .media
-  taken-media e a top = ap (λ (u : Trail). u .state .media) (after-take e a top)
+  pub taken-media : u .state .media ≡ x .media
+  taken-media = ap (λ (z : Trail). z .state .media) after-take
 
-  pub taken-reply : firstOf (rowsOf h x (taking d t)) ≡ pass → fateAt d (t .count) ≡ Answered → sessionAtTop (x .records .register .session) ≡ false
-      → one h t (taking d t) .reply ≡ ok (new ∷ [])
-  taken-reply e a top = ap (λ (u : Trail). u .reply) (after-take e a top)
+  pub taken-reply : u .reply ≡ ok (new ∷ [])
+  taken-reply = ap (λ (z : Trail). z .reply) after-take
 
 -- ---- the server's record has replica i set, known or forgotten: still on its way
 

@@ -15,10 +15,10 @@ use Rattle.bytes.specs.Bytes.{indexAfter, indexOf, slice}
 use Rattle.octets.specs.Octets.{writeAt}
 use Rattle.lines.specs.Forms.{meaningOf}
 use Rattle.replies.specs.Texts.{newline, textOf}
-use Rattle.interpreter.specs.declared.answer.Held.{Held}
-use Rattle.interpreter.specs.Shapes.{lineRoom}
-use Rattle.interpreter.specs.declared.answer.Next.{Next}
-use Rattle.interpreter.specs.Answers.{afterOf, answerTo}
+use Rattle.answers.specs.declared.answer.Held.{Held}
+use Rattle.answers.specs.Shapes.{lineRoom}
+use Rattle.answers.specs.declared.answer.Next.{Next}
+use Rattle.answers.specs.Answers.{afterOf, answerTo}
 use Rattle.interpreter.specs.Input.{Program, withLine, grown, left, ended, fed, closed, programOf}
 
 -- ---- lists

@@ -7,7 +7,7 @@ use Prim.Native.Nat.{ℕ}
 use lib.Dec.{eqb}
 use Rattle.lines.specs.Forms.{meaningOf}
 use Rattle.replies.specs.Texts.{newline}
-use Rattle.interpreter.specs.Answers.{After, answerTo}
+use Rattle.answers.specs.Answers.{After, answerTo}
 use Rattle.interpreter.specs.Input.{Program, grown, ended, fed, emptied}
 
 pub pieces : (p : Program) (a b : List ℕ) → fed p (a ++ b) ≡ fed (fed p a) b

@@ -1,3 +1,1 @@
-pub mod Shapes
-pub mod Answers
 pub mod Input

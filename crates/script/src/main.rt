@@ -4,8 +4,8 @@ ghost use mathlib.Core.Path.{_≡_};
 ghost use Prim.Native.Nat.{_≤_};
 ghost use lib.ListN.{length};
 ghost use Rattle.crc32.specs.Tables.{tablesOf};
-ghost use Rattle.interpreter.specs.Shapes.{lineRoom, Lent};
-ghost use Rattle.interpreter.specs.Answers.{nothing};
+ghost use Rattle.answers.specs.Shapes.{lineRoom, Lent};
+ghost use Rattle.answers.specs.Answers.{nothing};
 use cluster::Records;
 use crc32::Tables;
 use interpreter::program;
@@ -201,7 +201,7 @@ fn run(
 
 fn main() {
     let t = crc32::tables();
-    let none = interpreter::answer::nothing();
+    let none = answers::answer::nothing();
     let blank = none.records;
     let mut m = [0u8; MEDIA];
     let mut tables = [0u64; TABLES];

@@ -1,7 +1,7 @@
 -- `main`: what it lends has its sizes.
 -- Assumes nothing.
 use mathlib.Core.Path.{ap}
-use Rattle.interpreter.specs.declared.answer.Held.{Held}
+use Rattle.answers.specs.declared.answer.Held.{Held}
 use borrow.Author.Needs.{needs}
 use Rattle.script.proofs.main.Statement.{statement}
 use Rattle.script.proofs.main.Tie as tie

@@ -7,7 +7,7 @@ use lib.ListN.{length-take}
 use Rattle.octets.specs.Octets.{writeAt}
 use Rattle.replies.specs.Texts.{textOf}
 use Rattle.replies.proofs.Lengths.{text-short}
-use Rattle.interpreter.proofs.Answers.{sub-none, first-written}
+use Rattle.answers.proofs.Answers.{sub-none, first-written}
 use native.Mathlib.Omega.{arith}
 use borrow.Author.Needs.{needs}
 use Rattle.interpreter.proofs.program.put.Statement.{statement}

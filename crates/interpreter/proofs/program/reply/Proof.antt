@@ -4,8 +4,8 @@ use mathlib.Core.Path.{refl, ap, _∙_}
 use Prim.Native.Nat.{ℕ}
 use lib.ListN.{take}
 use Rattle.lines.specs.Forms.{meaningOf}
-use Rattle.interpreter.specs.Answers.{answerTo}
-use Rattle.interpreter.proofs.Answers.{sub-none}
+use Rattle.answers.specs.Answers.{answerTo}
+use Rattle.answers.proofs.Answers.{sub-none}
 use Rattle.interpreter.proofs.Fed.{answered-line}
 use native.Mathlib.Omega.{arith}
 use borrow.Author.Needs.{needs}

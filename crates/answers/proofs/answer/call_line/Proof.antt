@@ -5,11 +5,11 @@ use Prim.Native.Nat.{_-_}
 use native.Mathlib.Omega.{arith}
 use borrow.Author.Tests.{not-true, not-false}
 use Rattle.octets.proofs.Laws.{length-part}
-use Rattle.interpreter.specs.Answers.{inputOf}
-use Rattle.interpreter.proofs.Answers.{sub-none, early-call, made-call}
+use Rattle.answers.specs.Answers.{inputOf}
+use Rattle.answers.proofs.Answers.{sub-none, early-call, made-call}
 use borrow.Author.Needs.{needs}
-use Rattle.interpreter.proofs.answer.call_line.Statement.{statement}
-use Rattle.interpreter.proofs.answer.call_line.Tie as tie
+use Rattle.answers.proofs.answer.call_line.Statement.{statement}
+use Rattle.answers.proofs.answer.call_line.Tie as tie
 
 is-accepted-requires : tie.Need-is-accepted-requires
 is-accepted-requires c κs = search needs

@@ -2,11 +2,11 @@
 -- Assumes nothing.
 use mathlib.Core.Path.{sym, _∙_}
 use borrow.Author.Tests.{not-true, not-false}
-use Rattle.interpreter.proofs.Accepted.{bounded}
-use Rattle.interpreter.proofs.Answers.{refused-line, blank-start, accepted-line}
+use Rattle.answers.proofs.Accepted.{bounded}
+use Rattle.answers.proofs.Answers.{refused-line, blank-start, accepted-line}
 use borrow.Author.Needs.{needs}
-use Rattle.interpreter.proofs.answer.cluster_line.Statement.{statement}
-use Rattle.interpreter.proofs.answer.cluster_line.Tie as tie
+use Rattle.answers.proofs.answer.cluster_line.Statement.{statement}
+use Rattle.answers.proofs.answer.cluster_line.Tie as tie
 
 is-accepted-requires : tie.Need-is-accepted-requires
 is-accepted-requires c κs = search needs

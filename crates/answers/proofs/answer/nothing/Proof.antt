@@ -4,10 +4,10 @@ use mathlib.Core.Path.{ap}
 use Rattle.cluster.specs.declared.Records.{Records}
 use Rattle.cluster.specs.State.{fresh}
 use borrow.Author.Needs.{needs}
-use Rattle.interpreter.specs.declared.answer.Held.{Held}
-use Rattle.interpreter.specs.Answers.{nothing}
-use Rattle.interpreter.proofs.answer.nothing.Statement.{statement}
-use Rattle.interpreter.proofs.answer.nothing.Tie as tie
+use Rattle.answers.specs.declared.answer.Held.{Held}
+use Rattle.answers.specs.Answers.{nothing}
+use Rattle.answers.proofs.answer.nothing.Statement.{statement}
+use Rattle.answers.proofs.answer.nothing.Tie as tie
 
 records-requires : tie.Need-records-requires
 records-requires c κs = search needs

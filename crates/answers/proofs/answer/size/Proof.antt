@@ -1,10 +1,10 @@
 -- `answer::size`: an accepted shape bounds the product.
 -- Assumes nothing.
 use mathlib.Core.Path.{refl}
-use Rattle.interpreter.proofs.Accepted.{bounded}
+use Rattle.answers.proofs.Accepted.{bounded}
 use native.Mathlib.Omega.{arith}
-use Rattle.interpreter.proofs.answer.size.Statement.{statement}
-use Rattle.interpreter.proofs.answer.size.Tie as tie
+use Rattle.answers.proofs.answer.size.Statement.{statement}
+use Rattle.answers.proofs.answer.size.Tie as tie
 
 mul-result : tie.Need-mul-result
 mul-result c =

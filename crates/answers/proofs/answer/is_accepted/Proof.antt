@@ -1,9 +1,9 @@
 -- `answer::is_accepted`, by the tests that led to each answer.
 -- Assumes nothing.
 use borrow.Author.Tests.{le-leb, lt-leb, eq-eqb, ne-eqb}
-use Rattle.interpreter.specs.Shapes.{accepted}
-use Rattle.interpreter.proofs.answer.is_accepted.Statement.{statement}
-use Rattle.interpreter.proofs.answer.is_accepted.Tie as tie
+use Rattle.answers.specs.Shapes.{accepted}
+use Rattle.answers.proofs.answer.is_accepted.Statement.{statement}
+use Rattle.answers.proofs.answer.is_accepted.Tie as tie
 
 returns : tie.Need-returns
 unfolding accepted

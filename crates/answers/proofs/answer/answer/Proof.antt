@@ -3,11 +3,11 @@
 use mathlib.Core.Path.{sym, _∙_}
 use Rattle.lines.specs.Forms.{meaningOf}
 use Rattle.lines.proofs.Counts.{counted}
-use Rattle.interpreter.proofs.Answers.{bad-line, cluster-line, call-line}
+use Rattle.answers.proofs.Answers.{bad-line, cluster-line, call-line}
 use native.Mathlib.Omega.{arith}
 use borrow.Author.Needs.{needs}
-use Rattle.interpreter.proofs.answer.answer.Tie as tie
-use Rattle.interpreter.proofs.answer.answer.Statement.{statement}
+use Rattle.answers.proofs.answer.answer.Tie as tie
+use Rattle.answers.proofs.answer.answer.Statement.{statement}
 
 read-requires : tie.Need-read-requires
 read-requires c κs = search needs

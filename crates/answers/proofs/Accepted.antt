@@ -11,7 +11,7 @@ use borrow.Author.Tests.{leb-true, eqb-true}
 use Rattle.base.proofs.Tests.{both, either}
 use Rattle.storage.specs.Sizes.{mediumSize}
 use Rattle.cluster.specs.declared.Shape.{Shape}
-use Rattle.interpreter.specs.Shapes.{accepted, mediaLimit}
+use Rattle.answers.specs.Shapes.{accepted, mediaLimit}
 
 pub record Bounded (h : Shape) : Type 0 where
   pub replicas : h .replicas ≤ 7

@@ -17,9 +17,9 @@ use Rattle.checks.specs.Results.{noFiles, noStamp}
 use Rattle.lines.specs.Forms.{Meaning, bad, cluster, asked}
 use Rattle.replies.specs.declared.Printed.the-variants as printed
 use Rattle.replies.specs.Texts.{textOf, replyText}
-use Rattle.interpreter.specs.declared.answer.Held.{Held}
-use Rattle.interpreter.specs.declared.answer.Next.{Next}
-use Rattle.interpreter.specs.Shapes.{accepted}
+use Rattle.answers.specs.declared.answer.Held.{Held}
+use Rattle.answers.specs.declared.answer.Next.{Next}
+use Rattle.answers.specs.Shapes.{accepted}
 
 -- a line's text, and what the program then holds: shape and records, media and lock tables
 pub record After : Type 0 where

@@ -1,0 +1,2 @@
+// The answer to a line of the script program, and the cluster after it.
+pub mod answer;

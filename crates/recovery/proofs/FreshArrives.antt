@@ -1,5 +1,5 @@
--- A RECOVERY OF A FRESH CLUSTER ARRIVES, if it is not declined, lists at least Q replicas and no fates are given: it opens at 0. So what `arrives` asks for can be
--- met. The statement comes first; the theorem is `fresh-arrives`.
+-- A RECOVERY OF A FRESH CLUSTER ARRIVES, if it is not declined, lists at least Q replicas and no fates are given. So what `arrives` asks for can be met. The
+-- statement comes first; the theorem is `fresh-arrives`.
 -- Assumes nothing.
 use mathlib.Core.Path.{_≡_, refl, ap, _∙_, subst⁻¹}
 use mathlib.Core.Bool.{Bool, true, false, not, _&&_}

@@ -6,7 +6,7 @@ use cluster::Call;
 use cluster::Outcome;
 use cluster::Records;
 use cluster::Shape;
-use reading_calls::export;
+use export_calls::export;
 use reading_calls::read;
 use replica_calls::calls;
 use replica_calls::copy;

@@ -1,3 +1,2 @@
-// What a server reads of a member: read and export.
-pub mod export;
+// read: a place of a member. What a server hears of a message that reads serves export too.
 pub mod read;

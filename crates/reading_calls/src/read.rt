@@ -51,7 +51,7 @@ fn nothing_to_read(v: Server, i: usize, id: u64) -> bool
 }
 
 // 6, 7 and 16.
-fn check_read(
+pub fn check_read(
     t: &Tables,
     shape: Shape,
     v: Server,

@@ -11,10 +11,10 @@ use Rattle.cluster.specs.Step.{ifOk}
 use Rattle.checks.specs.Results.{filesOf}
 use Rattle.delivery.proofs.Hearing.{Spans, lent-size, export-heard}
 use Rattle.segment.proofs.Writing.{all-sized}
-use Rattle.reading_calls.proofs.Exporting.{places-are, heard-mark}
+use Rattle.export_calls.proofs.Exporting.{places-are, heard-mark}
 use borrow.Author.Needs.{needs}
-use Rattle.reading_calls.proofs.export.export_sent.Statement.{statement}
-use Rattle.reading_calls.proofs.export.export_sent.Tie as tie
+use Rattle.export_calls.proofs.export.export_sent.Statement.{statement}
+use Rattle.export_calls.proofs.export.export_sent.Tie as tie
 
 mul-v : tie.Need-mul-v
 mul-v c = search needs

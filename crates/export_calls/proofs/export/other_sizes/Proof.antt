@@ -1,8 +1,8 @@
 -- `export::other_sizes`: the data file's length is tried first, then the index file's, as the definition does (`other-data`, `other-index`).
-use Rattle.reading_calls.proofs.Exporting.{other-data, other-index}
+use Rattle.export_calls.proofs.Exporting.{other-data, other-index}
 use borrow.Author.Needs.{needs}
-use Rattle.reading_calls.proofs.export.other_sizes.Statement.{statement}
-use Rattle.reading_calls.proofs.export.other_sizes.Tie as tie
+use Rattle.export_calls.proofs.export.other_sizes.Statement.{statement}
+use Rattle.export_calls.proofs.export.other_sizes.Tie as tie
 
 data-size-requires : tie.Need-data-size-requires
 data-size-requires c κs = search needs

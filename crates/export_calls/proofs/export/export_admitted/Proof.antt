@@ -4,10 +4,10 @@ use Rattle.cluster.specs.State.{serverAt}
 use Rattle.cluster.specs.Refusals.{messageRows, exportedPlaces}
 use Rattle.checks.specs.Results.{filesOf}
 use Rattle.checks.proofs.Frame.{refused, goes-on}
-use Rattle.reading_calls.proofs.Exporting.{declined-files}
+use Rattle.export_calls.proofs.Exporting.{declined-files}
 use borrow.Author.Needs.{needs}
-use Rattle.reading_calls.proofs.export.export_admitted.Statement.{statement}
-use Rattle.reading_calls.proofs.export.export_admitted.Tie as tie
+use Rattle.export_calls.proofs.export.export_admitted.Statement.{statement}
+use Rattle.export_calls.proofs.export.export_admitted.Tie as tie
 
 tables-requires : tie.Need-tables-requires
 tables-requires c κs = search needs

@@ -7,10 +7,10 @@ use Rattle.cluster.specs.Effects.{exportedPair}
 use Rattle.checks.specs.Results.{filesOf, stateOf}
 use Rattle.checks.proofs.Frame.{refused, goes-on}
 use Rattle.replica_calls.proofs.Known.{named, admits}
-use Rattle.reading_calls.proofs.Exporting.{export-whole, files-whole, declined-files}
+use Rattle.export_calls.proofs.Exporting.{export-whole, files-whole, declined-files}
 use borrow.Author.Needs.{needs}
-use Rattle.reading_calls.proofs.export.export.Statement.{statement}
-use Rattle.reading_calls.proofs.export.export.Tie as tie
+use Rattle.export_calls.proofs.export.export.Statement.{statement}
+use Rattle.export_calls.proofs.export.export.Tie as tie
 
 admit-replica-requires : tie.Need-admit-replica-requires
 admit-replica-requires c κs = search needs

@@ -1,10 +1,10 @@
 -- `export::export_by`: no mark is heard, by its tag (`not-exported`); the files have other lengths (`not-sized`); or they are written (`exported`).
 use mathlib.Core.Path.{refl, sym, ap₂, _∙_}
 use Rattle.checks.specs.Results.{filesOf}
-use Rattle.reading_calls.proofs.Exporting.{exact, not-exported, not-sized, exported}
+use Rattle.export_calls.proofs.Exporting.{exact, not-exported, not-sized, exported}
 use borrow.Author.Needs.{needs}
-use Rattle.reading_calls.proofs.export.export_by.Statement.{statement}
-use Rattle.reading_calls.proofs.export.export_by.Tie as tie
+use Rattle.export_calls.proofs.export.export_by.Statement.{statement}
+use Rattle.export_calls.proofs.export.export_by.Tie as tie
 
 enum-told : tie.Need-enum-told
 enum-told c = search needs

@@ -1,4 +1,4 @@
--- What a call does unless it is declined. Document 01, "Fates" and "Calls on a cluster".
+-- What a call does unless it is declined. Document 01, "Fates" and "Calls on a cluster"; document 02, No. 3, 5 and 10.
 -- Assumes nothing.
 use Prim.Native.Nat.{ℕ, _+_}
 use mathlib.Core.List.{List, [], _∷_}
@@ -14,15 +14,18 @@ use Rattle.storage.specs.declared.operation.Target.{Target}
 use Rattle.storage.specs.declared.operation.Target.the-variants as target
 use Rattle.storage.specs.declared.operation.Operation.{Operation}
 use Rattle.storage.specs.declared.operation.Operation.the-variants as op
+use Rattle.octets.specs.Octets.{writeAt}
+use Rattle.storage.specs.declared.slot.Slot.{Slot}
 use Rattle.storage.specs.declared.place.Fields.{Fields}
-use Rattle.storage.specs.Sizes.{placeSize}
+use Rattle.storage.specs.Sizes.{slotSize, placeSize}
+use Rattle.storage.specs.Slots.{slotBytes, storedSlot}
 use Rattle.storage.specs.Places.{recordBytes}
 use Rattle.storage.specs.Log.{placeAt, markOf}
 use Rattle.storage.specs.Operations.{writesOf, mediumAt, withMedium}
 use Rattle.segment.specs.declared.header.Stamp.{Stamp}
 use Rattle.segment.specs.Pair.{Files, pairOf}
 use Rattle.cluster.specs.declared.Closing.{Closing}
-use Rattle.cluster.specs.declared.Closing.the-variants.{Unresolved, Mark}
+use Rattle.cluster.specs.declared.Closing.the-variants.{Unresolved, Mark, Restored}
 use Rattle.cluster.specs.declared.Entry.{Entry}
 use Rattle.cluster.specs.declared.Register.{Register}
 use Rattle.cluster.specs.declared.Phase.the-variants.{Opening, Open}
@@ -115,10 +118,12 @@ message N x s i f m =
       bytes = noBytes;
     }
 
--- what is left of the log of a replica that is prepared: "truncates to the entry's closing mark if there is one"
+-- what is left of the log of a replica that is prepared: "truncates to the entry's closing mark if there is one"; document 02, No. 10: "Preparing a restored
+-- replica truncates to its low-water mark"
 abbrev pub targetOf : Closing → Target
 targetOf Unresolved = target.Whole
 targetOf (Mark c) = target.Mark c
+targetOf Restored = target.LowWater
 
 -- "prepare i (opening): the replica writes a slot with the new promise, other fields kept, unless the promise is equal, then truncates to
 -- the entry's closing mark if there is one; it answers its mark and is known." The entry is the one handed over at take.
@@ -245,10 +250,12 @@ takeEffect x s f =
       bytes = noBytes;
     }
 
--- "the register sets clean entries to this session, unresolved; other unresolved entries get the mark as closing mark; the rest remain"
+-- "the register sets clean entries to this session, unresolved; other unresolved entries get the mark as closing mark; the rest remain"; document 02, No. 10,
+-- of a restored one that is clean: "the entry is ordinary; otherwise it stays restored"
 abbrev pub closedAt : Entry → ℕ → Closing → Entry
 closedAt e d Unresolved = record { session = e .session; closing = Mark d }
 closedAt e d (Mark c) = e
+closedAt e d Restored = e
 
 abbrev pub entryAfter : Entry → Bool → ℕ → ℕ → Entry
 entryAfter e clean session d = cond clean (record { session = session; closing = Unresolved }) (closedAt e d (e .closing))
@@ -353,5 +360,44 @@ reassignEffect x =
     record {
       state = record { records = putRegister (x .records) g; media = x .media; tables = x .tables };
       reply = ok (g .generation ∷ []);
+      bytes = noBytes;
+    }
+
+-- ================ a medium from a backup
+
+-- document 02, No. 10: restore "writes [the bytes] over it, raises the register's session, marks the entry restored (its session kept) and writes that session
+-- as promise in both slots, with the current slot's low-water marks, as one step without fate, and answers the session". "That session" is the raised one,
+-- and the current slot that of the bytes.
+abbrev pub restoredSlot : ℕ → List ℕ → Slot
+restoredSlot session backup = record { promise = session; low = storedSlot backup .low; local = storedSlot backup .local }
+
+abbrev pub restoredMedium : ℕ → List ℕ → List ℕ
+restoredMedium session backup =
+    let slot = slotBytes (restoredSlot session backup) in
+    writeAt 0 slot (writeAt slotSize slot backup)
+
+abbrev pub restoredEntry : Entry → Entry
+restoredEntry e = record { session = e .session; closing = Restored }
+
+abbrev pub restoredRegister : Register → ℕ → Register
+restoredRegister g i =
+    record {
+      session = g .session + 1;
+      generation = g .generation;
+      entries = set (g .entries) i (restoredEntry (entryAt (g .entries) i));
+    }
+
+-- the raised session is no server's, and server records stay
+unfoldable pub restoreEffect : ℕ → State → ℕ → List ℕ → Result
+restoreEffect N x i backup =
+    let g = restoredRegister (x .records .register) i in
+    record {
+      state =
+          record {
+            records = putRegister (x .records) g;
+            media = withMedium N i (restoredMedium (g .session) backup) (x .media);
+            tables = x .tables;
+          };
+      reply = ok (g .session ∷ []);
       bytes = noBytes;
     }

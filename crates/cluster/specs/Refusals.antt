@@ -28,7 +28,7 @@ use Rattle.limits.specs.declared.Limits.{Limits}
 use Rattle.limits.specs.Limits.{limitsOf, tooMuch}
 use Rattle.cluster.specs.declared.Shape.{Shape}
 use Rattle.cluster.specs.declared.Closing.{Closing}
-use Rattle.cluster.specs.declared.Closing.the-variants.{Unresolved, Mark}
+use Rattle.cluster.specs.declared.Closing.the-variants.{Unresolved, Mark, Restored}
 use Rattle.cluster.specs.declared.Entry.{Entry}
 use Rattle.cluster.specs.declared.Phase.{Phase}
 use Rattle.cluster.specs.declared.Phase.the-variants.{Idle, Opening, Open}
@@ -39,10 +39,10 @@ use Rattle.cluster.specs.declared.Records.{Records}
 use Rattle.cluster.specs.declared.Request.{Request}
 use Rattle.cluster.specs.declared.Call.{Call}
 use Rattle.cluster.specs.declared.Call.the-variants as call
-use Rattle.cluster.specs.State.{State, tableSize, serverAt, entryAt, markAt, activeAt, votesAt, window, holds, tableAt}
+use Rattle.cluster.specs.State.{State, tableSize, serverAt, entryAt, markAt, activeAt, restoredAt, votesAt, window, holds, tableAt}
 
--- a call with what lies beside it: issue's data and locks, the bytes given for a torn write, and for an export the time and key that are handed in and the
--- two files that are lent
+-- a call with what lies beside it: issue's data and locks, the bytes given for a torn write, for an export the time and key that are handed in and the two
+-- files that are lent, and for a restore the bytes of the medium that it writes
 pub record Input : Type 0 where
   pub call : Call
   pub content : List ℕ
@@ -50,6 +50,7 @@ pub record Input : Type 0 where
   pub given : List ℕ
   pub stamp : Stamp
   pub files : Files
+  pub backup : List ℕ
 
 -- a number of the list, whether its condition holds, and the values given with it
 pub record Row : Type 0 where
@@ -75,10 +76,15 @@ outside h media tables =
     || not (eqb media (h .replicas * mediumSize (h .places)))
     || not (eqb tables (4 * tableSize))
 
+-- 1 of a restore: the bytes too have a medium's length
+unfoldable pub otherLength : ℕ → List ℕ → Bool
+otherLength N backup = not (eqb (length backup) (mediumSize N))
+
 -- 2 "A mark in the register or a server record (closing, starting, recorded, issued, acknowledged) is above N"
 abbrev pub closingFits : Closing → ℕ → Bool
 closingFits Unresolved n = true
 closingFits (Mark c) n = leb c n
+closingFits Restored n = true
 
 unfoldable pub entriesFit : Shape → List Entry → Bool
 entriesFit h es = all (λ i. closingFits (entryAt es i .closing) (h .places)) (h .replicas)
@@ -110,6 +116,11 @@ abbrev pub allows : Phase → Phases → Bool
 allows Idle w = w .idle
 allows Opening w = w .opening
 allows Open w = w .«open»
+
+abbrev pub isOpening : Phase → Bool
+isOpening Idle = false
+isOpening Opening = true
+isOpening Open = false
 
 abbrev pub isOpen : Phase → Bool
 isOpen Idle = false
@@ -158,11 +169,12 @@ replicaOut v i = not (activeAt v i)
 abbrev pub undecided : ℕ → Server → Bool
 undecided r v = not (decided (votesAt v) (markAt v) r)
 
--- the mark of a vote among the known replicas
+-- the mark of a vote among the known replicas that are not restored
 abbrev pub voteMark : ℕ → Server → ℕ
 voteMark r v = majorityMark (votesAt v) (markAt v) r
 
--- 9 "Fewer than Q known replicas are clean (open)": known and "exactly at [the mark d] (the clean ones)"
+-- 9 "Fewer than Q known replicas are clean (open)": known and "exactly at [the mark d] (the clean ones)". Document 02, No. 10, of a restored one: "If it
+-- stands at the decided mark at open it counts as clean"
 abbrev pub cleanAt : Server → ℕ → ℕ → Bool
 cleanAt v d i = activeAt v i && eqb (markAt v i) d
 
@@ -254,9 +266,17 @@ refusesPrepare session m = noSlot m || promiseAbove session m
 abbrev pub refuses : ℕ → ℕ → ℕ → List ℕ → Bool
 refuses N session recorded m = noSlot m || promiseDiffers session m || markDiffers N recorded m
 
--- the same of server v and replica i; 17 "Copy, and a would meet 18, 19 or 20"
+-- the same of server v and replica i
 abbrev pub refusesAt : ℕ → Server → List ℕ → ℕ → Bool
 refusesAt N v media i = refuses N (v .session) (markAt v i) (mediumAt N i media)
+
+-- 17 "Copy, and a would meet 18, 19 or 20"; document 02, No. 10: "copying from [a restored replica] meets refusal 17". Once it is a member it is ordinary, so
+-- this is asked of an opening server alone.
+abbrev pub restoredSource : Server → ℕ → Bool
+restoredSource v a = isOpening (v .phase) && restoredAt v a
+
+abbrev pub unfitSource : ℕ → Server → List ℕ → ℕ → Bool
+unfitSource N v media a = restoredSource v a || refusesAt N v media a
 
 -- 1 once more, document 02, No. 3: "Slices of other than the exact lengths .. meet refusal 1; for an export's two files this is checked after 20 and seen
 -- only if the message is answered". What is exported is "a member's log, up to the lesser of its mark and the acknowledged one".
@@ -270,7 +290,8 @@ unfoldable pub otherSizes : List (List ℕ) → Files → Bool
 otherSizes ps files =
     not (eqb (length (files .dataFile)) (dataSize ps)) || not (eqb (length (files .indexFile)) (indexSize (length ps)))
 
--- 21 "A number to be raised is at its top (take, reassign)": sessions have 64 bits, generations 32. reassign has no fate.
+-- 21 "A number to be raised is at its top (take, reassign)": sessions have 64 bits, generations 32. reassign has no fate. Document 02, No. 10: "Restore uses
+-- refusals 1, 2, 4 and 21", and raises the session; it has no fate either.
 abbrev pub sessionAtTop : ℕ → Bool
 sessionAtTop s = eqb (s + 1) (2 ^ 64)
 
@@ -280,6 +301,10 @@ generationAtTop g = eqb (g + 1) (2 ^ 32)
 -- 22 "The register's session isn't the server's (open)"
 abbrev pub sessionDiffers : Register → Server → Bool
 sessionDiffers g v = not (eqb (g .session) (v .session))
+
+-- 30, document 02, No. 10: "number 30 is given last, when the bytes have no valid slot"
+abbrev pub noBackupSlot : List ℕ → Bool
+noBackupSlot backup = noSlot backup
 
 -- "18 to 22 are seen only if the message is answered, and otherwise it is silent"
 abbrev pub answered : Fate → Bool
@@ -294,10 +319,10 @@ seen f n b = row n (answered f && b)
 -- ================ the lists
 
 -- "Checked in this order": the order of the numbers, which each call's own list follows (proofs/Declines); 29, which is a recovery's alone (crate
--- recovery), is "just after 5", 28 "just after 12", 23 "just after 14", and the 1 of an export's two files "is checked after 20"
+-- recovery), is "just after 5", 28 "just after 12", 23 "just after 14", the 1 of an export's two files "is checked after 20", and 30 is "given last"
 abbrev pub order : List ℕ
 order =
-    1 ∷ 2 ∷ 3 ∷ 4 ∷ 5 ∷ 29 ∷ 6 ∷ 7 ∷ 8 ∷ 9 ∷ 10 ∷ 11 ∷ 12 ∷ 28 ∷ 13 ∷ 14 ∷ 23 ∷ 15 ∷ 16 ∷ 17 ∷ 18 ∷ 19 ∷ 20 ∷ 1 ∷ 21 ∷ 22 ∷ []
+    1 ∷ 2 ∷ 3 ∷ 4 ∷ 5 ∷ 29 ∷ 6 ∷ 7 ∷ 8 ∷ 9 ∷ 10 ∷ 11 ∷ 12 ∷ 28 ∷ 13 ∷ 14 ∷ 23 ∷ 15 ∷ 16 ∷ 17 ∷ 18 ∷ 19 ∷ 20 ∷ 1 ∷ 21 ∷ 22 ∷ 30 ∷ []
 
 -- what a call is checked for: before anything is looked at, before its message is sent, and by the receiver of the message
 pub record Checks : Type 0 where
@@ -317,6 +342,14 @@ phaseRows h x s phases = serverRows h x s ++ (row 5 (wrongPhase phases (serverAt
 
 abbrev pub replicaRows : Shape → State → ℕ → Bool → Phases → List Row
 replicaRows h x s unnamed phases = serverRows h x s ++ (row 4 unnamed ∷ row 5 (wrongPhase phases (serverAt (x .records) s)) ∷ [])
+
+-- of a restore, which names a replica and no server
+abbrev pub restoreRows : Shape → State → ℕ → List ℕ → List Row
+restoreRows h x i backup =
+    row 1 (outside h (length (x .media)) (length (x .tables)) || otherLength (h .places) backup)
+    ∷ row 2 (markAbove h (x .records))
+    ∷ row 4 (noReplicaAt (h .replicas) i)
+    ∷ []
 
 -- before a message to replica i, by server v: of any, and of those that are checked for more
 abbrev pub prepareRows : Shape → Fate → List ℕ → List Row
@@ -340,7 +373,7 @@ copyRows h v media a b f given =
     row 6 (unfit (h .places) given f)
     ∷ row 7 (replicaOut v a || replicaOut v b)
     ∷ row 16 (nothingToCopy v a b)
-    ∷ row 17 (refusesAt (h .places) v media a)
+    ∷ row 17 (unfitSource (h .places) v media a)
     ∷ []
 
 -- by a replica, which server v has sent a message to: prepare's, and any other
@@ -452,6 +485,12 @@ checksOf h x p (call.Export s i f) =
 checksOf h x p (call.Stop s) = record { admission = serverRows h x s; sending = []; receiving = [] }
 checksOf h x p call.Reassign =
     record { admission = clusterRows h x; sending = row 21 (generationAtTop (x .records .register .generation)) ∷ []; receiving = [] }
+checksOf h x p (call.Restore i) =
+    record {
+      admission = restoreRows h x i (p .backup);
+      sending = row 21 (sessionAtTop (x .records .register .session)) ∷ row 30 (noBackupSlot (p .backup)) ∷ [];
+      receiving = [];
+    }
 
 -- a call's whole list
 abbrev pub listOf : Checks → List Row

@@ -41,6 +41,7 @@ numberOf why.OtherPromise = 19
 numberOf why.OtherMark = 20
 numberOf why.AtTop = 21
 numberOf why.OtherSession = 22
+numberOf why.NoBackupSlot = 30
 
 -- "the first such lock and its estimate are given"
 abbrev pub valuesOf : Refusal → List ℕ
@@ -69,6 +70,7 @@ valuesOf why.OtherPromise = []
 valuesOf why.OtherMark = []
 valuesOf why.AtTop = []
 valuesOf why.OtherSession = []
+valuesOf why.NoBackupSlot = []
 
 abbrev pub replyOf : Answer → Reply
 replyOf answer.Done = ok []

@@ -1,15 +1,16 @@
--- The state of a cluster as the calls get it, and the parts of it that they name. Document 01, "Words", "Fates", "Register"; document 02, No. 5.
+-- The state of a cluster as the calls get it, and the parts of it that they name. Document 01, "Words", "Fates", "Register"; document 02, No. 5 and 10.
 -- Assumes nothing.
 use Prim.Native.Nat.{ℕ, zero, suc, _+_, _-_, _*_}
 use mathlib.Core.List.{List, [], _++_}
-use mathlib.Core.Bool.{Bool, false, not, _&&_}
+use mathlib.Core.Bool.{Bool, true, false, not, _&&_}
 use lib.ListN.{getD, set, replicate, drop}
 use lib.Dec.{ltb, leb}
 use Rattle.octets.specs.Octets.{part, writeAt}
 use Rattle.storage.specs.Sizes.{placeSize}
 use Rattle.storage.specs.Fresh.{freshMedium}
 use Rattle.cluster.specs.declared.Shape.{Shape}
-use Rattle.cluster.specs.declared.Closing.the-variants.{Unresolved}
+use Rattle.cluster.specs.declared.Closing.{Closing}
+use Rattle.cluster.specs.declared.Closing.the-variants.{Unresolved, Mark, Restored}
 use Rattle.cluster.specs.declared.Entry.{Entry}
 use Rattle.cluster.specs.declared.Register.{Register}
 use Rattle.cluster.specs.declared.Phase.the-variants.{Idle}
@@ -113,9 +114,19 @@ memberAt v i = getD (v .known) i false
 abbrev pub activeAt : Server → ℕ → Bool
 activeAt v i = getD (v .known) i false && not (getD (v .dropped) i false)
 
--- replica i's mark counts in the vote
+-- document 02, No. 10: "marks the entry restored"
+abbrev pub isRestored : Closing → Bool
+isRestored Unresolved = false
+isRestored (Mark c) = false
+isRestored Restored = true
+
+-- replica i was restored when the server's session was taken: the entry is the one handed over at take, as closing marks are, and not the register's of now
+abbrev pub restoredAt : Server → ℕ → Bool
+restoredAt v i = isRestored (entryAt (v .entries) i .closing)
+
+-- replica i's mark counts in the vote: document 02, No. 10: "It may receive copies but counts as absent in the vote"
 abbrev pub votesAt : Server → ℕ → Bool
-votesAt v i = activeAt v i
+votesAt v i = activeAt v i && not (restoredAt v i)
 
 -- server v holds the record of ID n
 abbrev pub holds : Server → ℕ → Bool

@@ -11,9 +11,9 @@ use Rattle.limits.specs.declared.Limits.{Limits}
 use Rattle.cluster.specs.State.{State, serverAt}
 use Rattle.cluster.specs.Replies.{Reply, ok, no, silent}
 use Rattle.cluster.specs.Refusals.{Input, Row, issueChecks, checksOf, listOf, rowsOf, voteMark, Verdict, pass, declined, firstOf}
-use Rattle.cluster.specs.Effects.{Result, noBytes, prepareEffect, trimEffect, noteEffect, readEffect, exportEffect, exportedPair, copyEffect, sendEffect, takeEffect, openEffect, issueEffect, stopEffect, reassignEffect}
+use Rattle.cluster.specs.Effects.{Result, noBytes, prepareEffect, trimEffect, noteEffect, readEffect, exportEffect, exportedPair, copyEffect, sendEffect, takeEffect, openEffect, issueEffect, stopEffect, reassignEffect, restoreEffect}
 
--- what each of the twelve calls does
+-- what each of the thirteen calls does
 abbrev pub effect : Shape → State → Input → Call → Result
 effect h x p (call.Take s f) = takeEffect x s f
 effect h x p (call.Prepare s i f) = prepareEffect (h .places) x s i f (p .given)
@@ -27,6 +27,7 @@ effect h x p (call.Read s i n f) = readEffect (h .places) x s i n f
 effect h x p (call.Export s i f) = exportEffect (h .places) x s i f
 effect h x p (call.Stop s) = stopEffect x s
 effect h x p call.Reassign = reassignEffect x
+effect h x p (call.Restore i) = restoreEffect (h .places) x i (p .backup)
 
 -- "each gives its number and changes nothing"
 unfoldable pub unless : Verdict → State → Result → Result
@@ -70,6 +71,7 @@ written h x p (call.Read s i n f) = p .files
 written h x p (call.Export s i f) = exportedPair (h .places) x s i (p .stamp)
 written h x p (call.Stop s) = p .files
 written h x p call.Reassign = p .files
+written h x p (call.Restore i) = p .files
 
 -- document 02, No. 3: "no reply but ok changes them"
 unfoldable pub ifOk : Reply → Files → Files → Files

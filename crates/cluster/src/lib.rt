@@ -28,13 +28,15 @@ pub struct Shape {
     pub interval: u64,
 }
 
-// The closing part of an entry: the mark at which a later session closed the replica's log, or none yet.
+// The closing part of an entry: none yet, the mark at which a later session closed the replica's log, or that its medium was put back from a backup and no
+// session has counted it since.
 pub enum Closing {
     Unresolved,
     Mark(u64),
+    Restored,
 }
 
-// What the register holds of a replica: the session that last set it, and the closing mark or that it is unresolved.
+// What the register holds of a replica: the session that last set it, and the closing part.
 pub struct Entry {
     pub session: u64,
     pub closing: Closing,
@@ -90,8 +92,9 @@ pub struct Request {
     pub header: u32,
 }
 
-// The twelve calls. The first number is the server's, then come replicas (copy: from, to) and read's ID. What holds bytes lies beside it, since an
-// enum holds no array: data, locks, the given bytes, and for an export the time and key of its headers and its two files.
+// The thirteen calls. The first number is the server's, then come replicas (copy: from, to) and read's ID; restore has a replica's alone. What holds bytes
+// lies beside it, since an enum holds no array: data, locks, the given bytes, for an export the time and key of its headers and its two files, and for a
+// restore the medium's bytes.
 pub enum Call {
     Take(u64, Fate),
     Prepare(u64, u64, Fate),
@@ -105,6 +108,7 @@ pub enum Call {
     Export(u64, u64, Fate),
     Stop(u64),
     Reassign,
+    Restore(u64),
 }
 
 // Why a call is declined, in the order in which it is checked (document 01's list, and document 02's numbers that join it). UnfitList is a recovery's
@@ -135,6 +139,7 @@ pub enum Refusal {
     OtherMark,
     AtTop,
     OtherSession,
+    NoBackupSlot,
 }
 
 // The reply: done with no value, done with one, no answer came, or declined.

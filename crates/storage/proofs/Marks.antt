@@ -14,7 +14,7 @@ use Rattle.fate.specs.Fates.{allOf, leave}
 use Rattle.storage.specs.declared.slot.Slot.{Slot}
 use Rattle.storage.specs.declared.slot.Current.{Current}
 use Rattle.storage.specs.declared.operation.Target.{Target}
-use Rattle.storage.specs.declared.operation.Target.the-variants.{Whole, Mark}
+use Rattle.storage.specs.declared.operation.Target.the-variants.{Whole, Mark, LowWater}
 use Rattle.storage.specs.declared.operation.Operation.{Operation}
 use Rattle.storage.specs.declared.operation.Operation.the-variants.{Prepare, Trim, Note, Append}
 use Rattle.storage.specs.Sizes.{placeSize, mediumSize, placeOffset}
@@ -119,10 +119,12 @@ trimmed-mark N t m e = truncated-mark N t m e
 
 -- ---- prepare
 
-closed-mark : (N : ℕ) (to : Target) (m : List ℕ) → length m ≡ mediumSize N → markOf N (allOf (closing (markOf N m) to) m) ≡ closedMark to (markOf N m)
+closed-mark : (N low : ℕ) (to : Target) (m : List ℕ) → length m ≡ mediumSize N
+    → markOf N (allOf (closing (markOf N m) low to) m) ≡ closedMark low to (markOf N m)
 unfolding closing allOf
-closed-mark N Whole m e = refl
-closed-mark N (Mark t) m e = truncated-mark N t m e
+closed-mark N low Whole m e = refl
+closed-mark N low (Mark t) m e = truncated-mark N t m e
+closed-mark N low LowWater m e = truncated-mark N low m e
 
 -- one slot write: the medium keeps its size and its mark
 slot-written : (N : ℕ) (c : Current) (y : Slot) (m : List ℕ) → length m ≡ mediumSize N
@@ -133,17 +135,19 @@ slot-written N c y m e = (
   mark-kept N m (writeAt (otherAt c) (slotBytes y) m) (slot-write-places c y [] m New (omega arith)),
 )
 
-pub prepared-mark : (N s : ℕ) (to : Target) (m : List ℕ) → length m ≡ mediumSize N → markOf N (allOf (prepareWrites N s to m) m) ≡ closedMark to (markOf N m)
+pub prepared-mark : (N s : ℕ) (to : Target) (m : List ℕ) → length m ≡ mediumSize N → markOf N (allOf (prepareWrites N s to m) m) ≡ closedMark (storedSlot m .low) to (markOf N m)
 unfolding prepareWrites
 prepared-mark N s to m e = go (ℕ-discrete (storedSlot m .promise) s)
   where
-    go : Dec (storedSlot m .promise ≡ s) → markOf N (allOf (promising (currentOf m) (storedSlot m) s ++ closing (markOf N m) to) m) ≡ closedMark to (markOf N m)
-    go (yes q) = rw (not-promised (currentOf m) (storedSlot m) s q) (closed-mark N to m e)
+    go : Dec (storedSlot m .promise ≡ s)
+        → markOf N (allOf (promising (currentOf m) (storedSlot m) s ++ closing (markOf N m) (storedSlot m .low) to) m)
+        ≡ closedMark (storedSlot m .low) to (markOf N m)
+    go (yes q) = rw (not-promised (currentOf m) (storedSlot m) s q) (closed-mark N (storedSlot m .low) to m e)
     go (no ne) =
         let y : Slot = record { promise = s; low = storedSlot m .low; local = storedSlot m .local } in
         let w = slot-written N (currentOf m) y m e in
-        rw (promised (currentOf m) (storedSlot m) s ne, all-first (slotWrite (currentOf m) y) (closing (markOf N m) to) m)
-        (rw (w .1) at (closed-mark N to (writeAt (otherAt (currentOf m)) (slotBytes y) m) (w .0)))
+        rw (promised (currentOf m) (storedSlot m) s ne, all-first (slotWrite (currentOf m) y) (closing (markOf N m) (storedSlot m .low) to) m)
+        (rw (w .1) at (closed-mark N (storedSlot m .low) to (writeAt (otherAt (currentOf m)) (slotBytes y) m) (w .0)))
 
 pub noted-mark : (N low local : ℕ) (m : List ℕ) → length m ≡ mediumSize N → markOf N (allOf (noteWrites low local m) m) ≡ markOf N m
 unfolding noteWrites allOf
@@ -153,7 +157,7 @@ noted-mark N low local m e = slot-written N (currentOf m) (record { promise = st
 
 -- "Each answered replica call sets the recorded mark to the replica's mark after it": what is known of it without reading it
 pub performed-mark : (N : ℕ) (op : Operation) (bs m : List ℕ) → length m ≡ mediumSize N → length bs ≡ placeSize → HasPlace N op
-    → ((n : ℕ) → op ≡ Append n → markOf N m ≤ n) → MarkKnown N op (markOf N m) (allOf (writesOf N bs op m) m)
+    → ((n : ℕ) → op ≡ Append n → markOf N m ≤ n) → MarkKnown N op (storedSlot m .low) (markOf N m) (allOf (writesOf N bs op m) m)
 unfolding allOf
 performed-mark N (Prepare s to) bs m e l p b = prepared-mark N s to m e
 performed-mark N (Trim t) bs m e l p b = trimmed-mark N t m e

@@ -2,7 +2,7 @@
 --
 --   append     a valid record behind the log is one more of it; old and torn leave the log             appends
 --   trim       a prefix not shorter than the target, exactly the target if complete                   trims, trims-all, trims-none
---   prepare    nothing yet, or the new promise and then a prefix that reaches the closing mark        prepares, prepares-all
+--   prepare    nothing yet, or the new promise and then a prefix that reaches the target's mark       prepares, prepares-all
 --   note       the log and the promise stay                                                           notes
 --   torn       given bytes that pass as no slot and as no place leave an invalid slot or place        torn-place-left, torn-slot-left
 --   place writes leave both slots (SlotsKept), slot writes leave every place (PlacesKept), and "no valid place above the mark"
@@ -29,7 +29,7 @@ use Rattle.fate.proofs.Laws.{numbered, from-answered, from-one, from-append, st
 use Rattle.storage.specs.declared.slot.Slot.{Slot}
 use Rattle.storage.specs.declared.slot.Current.{Current}
 use Rattle.storage.specs.declared.operation.Target.{Target}
-use Rattle.storage.specs.declared.operation.Target.the-variants.{Whole, Mark}
+use Rattle.storage.specs.declared.operation.Target.the-variants.{Whole, Mark, LowWater}
 use Rattle.storage.specs.Sizes.{slotSize, slotsSize, placeSize, mediumSize, placeOffset}
 use Rattle.storage.specs.Places.{validPlace, wiped}
 use Rattle.storage.specs.Slots.{slotBytes, validSlot, currentOf, storedSlot, otherAt, HasSlot, FittingSlot}
@@ -74,16 +74,17 @@ pub record Trimmed (N t : ℕ) (m m′ : List ℕ) : Type 0 where
 abbrev pub promisedSlot : ℕ → Slot → Slot
 promisedSlot s x = record { promise = s; low = x .low; local = x .local }
 
-abbrev pub closedBy : Target → List (List ℕ) → List (List ℕ)
-closedBy Whole l = l
-closedBy (Mark t) l = take t l
+abbrev pub closedBy : ℕ → Target → List (List ℕ) → List (List ℕ)
+closedBy low Whole l = l
+closedBy low (Mark t) l = take t l
+closedBy low LowWater l = take low l
 
 -- prepare, cut anywhere: nothing yet, or the promise is written and the log is a prefix that reaches the closing mark
 pub record Prepared (N s : ℕ) (to : Target) (m m′ : List ℕ) : Type 0 where
   pub sound : Sound N m′
   pub valid : HasSlot m′
   pub stage : ((storedSlot m′ ≡ storedSlot m) × (logOf N m′ ≡ logOf N m))
-      ⊎ ((storedSlot m′ ≡ promisedSlot s (storedSlot m)) × Shortened N (closedMark to (markOf N m)) m m′)
+      ⊎ ((storedSlot m′ ≡ promisedSlot s (storedSlot m)) × Shortened N (closedMark (storedSlot m .low) to (markOf N m)) m m′)
 
 pub record Noted (N : ℕ) (y : Slot) (m m′ : List ℕ) : Type 0 where
   pub log : logOf N m′ ≡ logOf N m
@@ -228,10 +229,12 @@ trims-none N t m h = ap (wipes t) (nothing-above (markOf N m) t h)
 
 module _ (N : ℕ) (f : Fate) (g m : List ℕ) (s : Sound N m) (h : Harmless N f g) where
   -- the closing mark's truncation, writes from k on
-  closes : (to : Target) (k : ℕ) → let m′ = afterFrom k f g (closing (markOf N m) to) m in Shortened N (closedMark to (markOf N m)) m m′ × SlotsKept m m′
+  closes : (low : ℕ) (to : Target) (k : ℕ) → let m′ = afterFrom k f g (closing (markOf N m) low to) m in
+      Shortened N (closedMark low to (markOf N m)) m m′ × SlotsKept m m′
   unfolding closing afterFrom
-  closes Whole k = (no-change N (markOf N m) m s (omega arith), record { current = refl; slot = refl })
-  closes (Mark t) k = shortens N f g m s h t k
+  closes low Whole k = (no-change N (markOf N m) m s (omega arith), record { current = refl; slot = refl })
+  closes low (Mark t) k = shortens N f g m s h t k
+  closes low LowWater k = shortens N f g m s h low k
 
 moved : (N u : ℕ) (m m₁ m′ : List ℕ) → logOf N m₁ ≡ logOf N m → Shortened N u m₁ m′ → Shortened N u m m′
 moved N u m m₁ m′ e a =
@@ -248,9 +251,9 @@ valid-by m m′ e h z = h (sym e ∙ z)
 
 module _ (N : ℕ) (f : Fate) (g m : List ℕ) (s : Sound N m) (h : Harmless N f g) (p : ℕ) (to : Target) (ok : HasSlot m) (fit : FittingSlot (storedSlot m)) where
   -- the promise is the old one: only the truncation
-  same-promise : storedSlot m .promise ≡ p → Prepared N p to m (afterFrom 1 f g (closing (markOf N m) to) m)
+  same-promise : storedSlot m .promise ≡ p → Prepared N p to m (afterFrom 1 f g (closing (markOf N m) (storedSlot m .low) to) m)
   same-promise e =
-      let a = closes N f g m s h to 1 in
+      let a = closes N f g m s h (storedSlot m .low) to 1 in
       let x = storedSlot m in
       let renamed : x ≡ promisedSlot p x = λ i. record { promise = e i; low = x .low; local = x .local } in
       record {
@@ -261,10 +264,10 @@ module _ (N : ℕ) (f : Fate) (g m : List ℕ) (s : Sound N m) (h : Harmless N f
 
   -- the promise is a new one: the slot write is old, new or torn, and the truncation follows only where it is new
   new-promise : storedSlot m .promise < p → p < 2 ^ 64 → (v : Left) → effectOf f 1 ≡ v
-      → Prepared N p to m (afterFrom 2 f g (closing (markOf N m) to) (leave v g (slotWrite (currentOf m) (promisedSlot p (storedSlot m))) m))
+      → Prepared N p to m (afterFrom 2 f g (closing (markOf N m) (storedSlot m .low) to) (leave v g (slotWrite (currentOf m) (promisedSlot p (storedSlot m))) m))
   unfolding leave
   new-promise lt w Old e =
-      subst⁻¹ (Prepared N p to m) (stops g f 1 (λ z. old-is (sym e ∙ z)) (closing (markOf N m) to) m)
+      subst⁻¹ (Prepared N p to m) (stops g f 1 (λ z. old-is (sym e ∙ z)) (closing (markOf N m) (storedSlot m .low) to) m)
       (record { sound = s; valid = ok; stage = inl (refl, refl) })
   new-promise lt w New e =
       let c = currentOf m in
@@ -273,11 +276,11 @@ module _ (N : ℕ) (f : Fate) (g m : List ℕ) (s : Sound N m) (h : Harmless N f
       let r = slot-write-log N c y g m New s in
       let o = slot-over m (omega (arith, s .size)) c y refl ok (record { promise = w; low = fit .low; local = fit .local }) in
       let n : markOf N m₁ ≡ markOf N m = mark-is N m₁ ∙ ap length (r .0) ∙ sym (mark-is N m) in
-      let a = rw n at (closes N f g m₁ (r .1) h to 2) in
+      let a = rw n at (closes N f g m₁ (r .1) h (storedSlot m .low) to 2) in
       record {
         sound = a .0 .sound;
         valid = valid-by m₁ _ (a .1 .current) (o .0 .valid);
-        stage = inr (a .1 .slot ∙ o .1 lt, moved N (closedMark to (markOf N m)) m m₁ _ (r .0) (a .0));
+        stage = inr (a .1 .slot ∙ o .1 lt, moved N (closedMark (storedSlot m .low) to (markOf N m)) m m₁ _ (r .0) (a .0));
       }
   new-promise lt w Torn e =
       let c = currentOf m in
@@ -287,32 +290,31 @@ module _ (N : ℕ) (f : Fate) (g m : List ℕ) (s : Sound N m) (h : Harmless N f
       let v : validSlot b ≡ false = ap (λ (k : ℕ). validSlot (take k g)) (slot-length y) ∙ torn-slot N f g h 1 e in
       let r = slot-write-log N c y g m Torn s in
       let o = slot-torn m (omega (arith, s .size)) c b refl ok l v in
-      subst⁻¹ (Prepared N p to m) (stops g f 1 (λ z. torn-is (sym e ∙ z)) (closing (markOf N m) to) (writeAt (otherAt c) b m))
+      subst⁻¹ (Prepared N p to m) (stops g f 1 (λ z. torn-is (sym e ∙ z)) (closing (markOf N m) (storedSlot m .low) to) (writeAt (otherAt c) b m))
       (record { sound = r .1; valid = o .0; stage = inl (o .1, r .0) })
 
   pub prepares : storedSlot m .promise ≤ p → p < 2 ^ 64 → Prepared N p to m (after f g (prepareWrites N p to m) m)
   unfolding prepareWrites
   prepares le w = go (ℕ-discrete (storedSlot m .promise) p)
     where
-      go : Dec (storedSlot m .promise ≡ p) → Prepared N p to m (after f g (promising (currentOf m) (storedSlot m) p ++ closing (markOf N m) to) m)
+      go : Dec (storedSlot m .promise ≡ p) → Prepared N p to m (after f g (promising (currentOf m) (storedSlot m) p ++ closing (markOf N m) (storedSlot m .low) to) m)
       go (yes e) =
           rw (not-promised (currentOf m) (storedSlot m) p e)
-          (subst (Prepared N p to m) (numbered g f (closing (markOf N m) to) m) (same-promise e))
+          (subst (Prepared N p to m) (numbered g f (closing (markOf N m) (storedSlot m .low) to) m) (same-promise e))
       go (no ne) =
           let y = slotWrite (currentOf m) (promisedSlot p (storedSlot m)) in
           rw (promised (currentOf m) (storedSlot m) p ne)
-          (subst (Prepared N p to m) (sym (from-append g 1 f (y ∷ []) (closing (markOf N m) to) m) ∙ numbered g f (y ∷ closing (markOf N m) to) m)
+          (subst (Prepared N p to m) (sym (from-append g 1 f (y ∷ []) (closing (markOf N m) (storedSlot m .low) to) m) ∙ numbered g f (y ∷ closing (markOf N m) (storedSlot m .low) to) m)
           (rw (from-one g 1 f y m) (new-promise (omega (arith, ne)) w (effectOf f 1) refl)))
 
 -- a complete prepare leaves the new promise and the log up to the closing mark
 pub record Closed (N p : ℕ) (to : Target) (m m′ : List ℕ) : Type 0 where
   pub slot : storedSlot m′ ≡ promisedSlot p (storedSlot m)
-  pub log : logOf N m′ ≡ closedBy to (logOf N m)
+  pub log : logOf N m′ ≡ closedBy (storedSlot m .low) to (logOf N m)
 
-closes-all : (N : ℕ) (m : List ℕ) → Sound N m → (to : Target) → let m′ = allOf (closing (markOf N m) to) m in (logOf N m′ ≡ closedBy to (logOf N m)) × SlotsKept m m′
-unfolding closing allOf
-closes-all N m s Whole = (refl, record { current = refl; slot = refl })
-closes-all N m s (Mark t) = go (decLe t (markOf N m))
+wipes-all : (N : ℕ) (m : List ℕ) → Sound N m → (t : ℕ) → let m′ = allOf (wipes t (markOf N m - t)) m in (logOf N m′ ≡ take t (logOf N m)) × SlotsKept m m′
+unfolding allOf
+wipes-all N m s t = go (decLe t (markOf N m))
   where
     go : Dec (t ≤ markOf N m) → let m′ = allOf (wipes t (markOf N m - t)) m in (logOf N m′ ≡ take t (logOf N m)) × SlotsKept m m′
     go (yes p) = (
@@ -324,14 +326,21 @@ closes-all N m s (Mark t) = go (decLe t (markOf N m))
         rw (ap (λ (d : ℕ). wipes t d) (nothing-above (markOf N m) t (omega (arith, p))), wipes-none t)
         (sym (take-all t (logOf N m) (omega (arith, p, mark-is N m))), record { current = refl; slot = refl })
 
+closes-all : (N low : ℕ) (m : List ℕ) → Sound N m → (to : Target) → let m′ = allOf (closing (markOf N m) low to) m in
+    (logOf N m′ ≡ closedBy low to (logOf N m)) × SlotsKept m m′
+unfolding closing allOf
+closes-all N low m s Whole = (refl, record { current = refl; slot = refl })
+closes-all N low m s (Mark t) = wipes-all N m s t
+closes-all N low m s LowWater = wipes-all N m s low
+
 pub prepares-all : (N p : ℕ) (to : Target) (m : List ℕ) → Sound N m → HasSlot m → FittingSlot (storedSlot m) → storedSlot m .promise ≤ p → p < 2 ^ 64
     → Closed N p to m (allOf (prepareWrites N p to m) m)
 unfolding prepareWrites
 prepares-all N p to m s ok fit le w = go (ℕ-discrete (storedSlot m .promise) p)
   where
-    go : Dec (storedSlot m .promise ≡ p) → Closed N p to m (allOf (promising (currentOf m) (storedSlot m) p ++ closing (markOf N m) to) m)
+    go : Dec (storedSlot m .promise ≡ p) → Closed N p to m (allOf (promising (currentOf m) (storedSlot m) p ++ closing (markOf N m) (storedSlot m .low) to) m)
     go (yes e) =
-        let a = closes-all N m s to in
+        let a = closes-all N (storedSlot m .low) m s to in
         let x = storedSlot m in
         let renamed : x ≡ promisedSlot p x = λ i. record { promise = e i; low = x .low; local = x .local } in
         rw (not-promised (currentOf m) (storedSlot m) p e) (record { slot = a .1 .slot ∙ renamed; log = a .0 })
@@ -342,9 +351,9 @@ prepares-all N p to m s ok fit le w = go (ℕ-discrete (storedSlot m .promise) p
         let r = log-kept N m s (otherAt c) (slotBytes y) (slot-room c y) in
         let o = slot-over m (omega (arith, s .size)) c y refl ok (record { promise = w; low = fit .low; local = fit .local }) in
         let n : markOf N m₁ ≡ markOf N m = mark-is N m₁ ∙ ap length (r .0) ∙ sym (mark-is N m) in
-        let a = rw n at (closes-all N m₁ (r .1) to) in
-        rw (promised (currentOf m) (storedSlot m) p ne, all-first (slotWrite c y) (closing (markOf N m) to) m)
-        (record { slot = a .1 .slot ∙ o .1 (omega (arith, ne)); log = a .0 ∙ ap (closedBy to) (r .0) })
+        let a = rw n at (closes-all N (storedSlot m .low) m₁ (r .1) to) in
+        rw (promised (currentOf m) (storedSlot m) p ne, all-first (slotWrite c y) (closing (markOf N m) (storedSlot m .low) to) m)
+        (record { slot = a .1 .slot ∙ o .1 (omega (arith, ne)); log = a .0 ∙ ap (closedBy (storedSlot m .low) to) (r .0) })
 
 -- ================ note
 

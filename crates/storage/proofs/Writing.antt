@@ -50,17 +50,18 @@ module _ (f : Fate) (g m : List ℕ) where
 
 module _ (r : Read) (f : Fate) (g m : List ℕ) (a : AsRead r m) where
   pub prepared : (s : ℕ) (to : Target) (k : ℕ) (l l′ : List ℕ) → let w = promising (r .current) (r .slot) s in k ≡ 1 + length w
-      → l ≡ afterFrom 1 f g w m → l′ ≡ afterFrom k f g (closing (r .mark) to) l → l′ ≡ after f g (prepareWrites (r .places) s to m) m
+      → l ≡ afterFrom 1 f g w m → l′ ≡ afterFrom k f g (closing (r .mark) (r .slot .low) to) l → l′ ≡ after f g (prepareWrites (r .places) s to m) m
   unfolding prepareWrites storedSlot
   prepared s to k l l′ e₁ e₂ e₃ =
       let c : r .current ≡ currentOf m = a .current in
       let x : r .slot ≡ heldOf (currentOf m) m = a .slot ∙ ap (λ (i : Current). heldOf i m) c in
       let w = promising (r .current) (r .slot) s in
       let ws : w ≡ promising (currentOf m) (heldOf (currentOf m) m) s = ap₂ (λ (i : Current) (y : Slot). promising i y s) c x in
-      e₃ ∙ ap₂ (λ (j : ℕ) (y : List ℕ). afterFrom j f g (closing (r .mark) to) y) e₁ e₂
-      ∙ sym (from-append g 1 f w (closing (r .mark) to) m)
-      ∙ ap₂ (λ (u : List Write) (n : ℕ). afterFrom 1 f g (u ++ closing n to) m) ws (a .mark)
-      ∙ numbered g f (promising (currentOf m) (heldOf (currentOf m) m) s ++ closing (markOf (r .places) m) to) m
+      e₃ ∙ ap₂ (λ (j : ℕ) (y : List ℕ). afterFrom j f g (closing (r .mark) (r .slot .low) to) y) e₁ e₂
+      ∙ sym (from-append g 1 f w (closing (r .mark) (r .slot .low) to) m)
+      ∙ ap₂ (λ (u : List Write) (n : ℕ). afterFrom 1 f g (u ++ closing n (r .slot .low) to) m) ws (a .mark)
+      ∙ ap (λ (y : Slot). afterFrom 1 f g (promising (currentOf m) (heldOf (currentOf m) m) s ++ closing (markOf (r .places) m) (y .low) to) m) x
+      ∙ numbered g f (promising (currentOf m) (heldOf (currentOf m) m) s ++ closing (markOf (r .places) m) (heldOf (currentOf m) m .low) to) m
 
   pub trimmed : (to : ℕ) (l : List ℕ) → l ≡ afterFrom 1 f g (wipes to (r .mark - to)) m → l ≡ after f g (trimWrites (r .places) to m) m
   unfolding trimWrites

@@ -10,7 +10,7 @@ use Rattle.fate.specs.Fates.{Write}
 use Rattle.storage.specs.declared.slot.Slot.{Slot}
 use Rattle.storage.specs.declared.slot.Current.{Current}
 use Rattle.storage.specs.declared.operation.Target.{Target}
-use Rattle.storage.specs.declared.operation.Target.the-variants.{Whole, Mark}
+use Rattle.storage.specs.declared.operation.Target.the-variants.{Whole, Mark, LowWater}
 use Rattle.storage.specs.declared.operation.Operation.{Operation}
 use Rattle.storage.specs.declared.operation.Operation.the-variants.{Prepare, Trim, Note, Append}
 use Rattle.storage.specs.Sizes.{placeOffset, mediumSize}
@@ -39,19 +39,21 @@ unfoldable pub promising : Current → Slot → ℕ → List Write
 promising c x session =
     cond (eqb (x .promise) session) [] (slotWrite c (record { promise = session; low = x .low; local = x .local }) ∷ [])
 
--- "then truncates to the entry's closing mark if there is one"
-unfoldable pub closing : ℕ → Target → List Write
-closing n Whole = []
-closing n (Mark t) = truncation n t
+-- "then truncates to the entry's closing mark if there is one"; document 02, No. 10: "Preparing a restored replica truncates to its low-water mark", low
+unfoldable pub closing : ℕ → ℕ → Target → List Write
+closing n low Whole = []
+closing n low (Mark t) = truncation n t
+closing n low LowWater = truncation n low
 
 -- the mark that this leaves of a log with mark n
-abbrev pub closedMark : Target → ℕ → ℕ
-closedMark Whole n = n
-closedMark (Mark t) n = min t n
+abbrev pub closedMark : ℕ → Target → ℕ → ℕ
+closedMark low Whole n = n
+closedMark low (Mark t) n = min t n
+closedMark low LowWater n = min low n
 
--- prepare
+-- prepare: a new promise keeps the low-water marks, so before or after it is the same
 unfoldable pub prepareWrites : ℕ → ℕ → Target → List ℕ → List Write
-prepareWrites N session to m = promising (currentOf m) (storedSlot m) session ++ closing (markOf N m) to
+prepareWrites N session to m = promising (currentOf m) (storedSlot m) session ++ closing (markOf N m) (storedSlot m .low) to
 
 -- trim: truncates to a mark
 unfoldable pub trimWrites : ℕ → ℕ → List ℕ → List Write
@@ -80,12 +82,13 @@ HasPlace N (Trim t) = Unit {0}
 HasPlace N (Note low local) = Unit {0}
 HasPlace N (Append n) = n < N
 
--- what is known, before any byte is read again, of the mark of m after an operation on a log with mark n: behind an append the log may go on
-abbrev pub MarkKnown : ℕ → Operation → ℕ → List ℕ → Type 0
-MarkKnown N (Prepare session to) n m = markOf N m ≡ closedMark to n
-MarkKnown N (Trim t) n m = markOf N m ≡ min t n
-MarkKnown N (Note low local) n m = markOf N m ≡ n
-MarkKnown N (Append k) n m = n ≤ markOf N m
+-- what is known, before any byte is read again, of the mark of m after an operation on a medium with this low-water mark and a log with mark n: behind an
+-- append the log may go on
+abbrev pub MarkKnown : ℕ → Operation → ℕ → ℕ → List ℕ → Type 0
+MarkKnown N (Prepare session to) low n m = markOf N m ≡ closedMark low to n
+MarkKnown N (Trim t) low n m = markOf N m ≡ min t n
+MarkKnown N (Note noted local) low n m = markOf N m ≡ n
+MarkKnown N (Append k) low n m = n ≤ markOf N m
 
 -- "The media lie one after another in a single lent slice": replica i's medium, and the media with another in its place
 abbrev pub mediumAt : ℕ → ℕ → List ℕ → List ℕ

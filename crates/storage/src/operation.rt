@@ -2,10 +2,11 @@
 use crate::slot::Current;
 use crate::slot::Slot;
 
-// What prepare leaves of a log: the whole of it, or the places up to a mark.
+// What prepare leaves of a log: the whole of it, the places up to a mark, or those up to the replica's own low-water mark.
 pub enum Target {
     Whole,
     Mark(u64),
+    LowWater,
 }
 
 // A replica's operations. Prepare: the session that it promises, and what it truncates to; Trim: the mark that it truncates to; Note: the

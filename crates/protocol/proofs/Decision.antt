@@ -1,7 +1,7 @@
 -- The decision lemma: where an opening session is newer than every opened one and D is decided, the newest opened one never acknowledges more.
 -- So trimming to D loses nothing that is acknowledged or will be, and D reaches all that an earlier session acknowledges.
 -- Assumes nothing.
-use mathlib.Core.Path.{_≡_, refl, _∙_, ap}
+use mathlib.Core.Path.{_≡_, refl}
 use mathlib.Core.Logic.{_⊎_, inl, inr, ⊎-elim}
 use mathlib.Core.Bool.{Bool, true, false, not, _&&_}
 use Prim.Native.Nat.{ℕ, _≤_, _<_}
@@ -31,8 +31,8 @@ decision σ I s D m p l d h = go (decLt _ (σ .Q))
 
         split : (a b : Bool) → σ .known s j ≡ a → σ .handed-restored s j ≡ b → ((voter σ s j ≡ true) × (D < σ .recorded s j)) ⊎ (voter σ s j ≡ false)
         split false b k v = inr (rw k)
-        split true true k v = inr (ap (λ b. σ .known s j && not b) v ∙ rw k)
-        split true false k v = inl (ap (λ b. σ .known s j && not b) v ∙ rw k, more k v (decLt (σ .recorded s j) m))
+        split true true k v = inr (cc (k, v))
+        split true false k v = inl (cc (k, v), more k v (decLt (σ .recorded s j) m))
 
     go : Dec (Never σ σ.newest m) → Never σ σ.newest m
     go (yes u) = u

@@ -9,6 +9,7 @@ use Rattle.cluster.specs.declared.Refusal.{Refusal}
 use Rattle.cluster.specs.declared.Answer.the-variants.{Done, Value, Silent, Declined}
 use Rattle.cluster.specs.declared.Outcome.{Outcome}
 use Rattle.cluster.specs.declared.Call.{Call}
+use Rattle.cluster.specs.declared.Call.the-variants as call
 use Rattle.cluster.specs.State.{State, putServer}
 use Rattle.cluster.specs.Replies.{replyOf}
 use Rattle.segment.specs.declared.header.Stamp.{Stamp}
@@ -33,17 +34,20 @@ noFiles = filesOf [] []
 abbrev pub noStamp : Stamp
 noStamp = record { time = 0; key = replicate keySize 0 }
 
--- a call that has neither data nor locks nor anything of an export beside it
+-- a call that has neither data nor locks nor anything of an export or a restore beside it
 abbrev pub inputOf : Call → List ℕ → Input
-inputOf c given = record { call = c; content = []; locks = []; given = given; stamp = noStamp; files = noFiles }
+inputOf c given = record { call = c; content = []; locks = []; given = given; stamp = noStamp; files = noFiles; backup = [] }
 
--- a call with all that may lie beside one; and an export, without data and locks
-abbrev pub besideOf : Call → (content locks given : List ℕ) → Stamp → (dataFile indexFile : List ℕ) → Input
-besideOf c content locks given stamp dataFile indexFile =
-    record { call = c; content = content; locks = locks; given = given; stamp = stamp; files = filesOf dataFile indexFile }
+-- a call with all that may lie beside one; an export, without data, locks and backup; and a restore, with its backup alone
+abbrev pub besideOf : Call → (content locks given : List ℕ) → Stamp → (dataFile indexFile backup : List ℕ) → Input
+besideOf c content locks given stamp dataFile indexFile backup =
+    record { call = c; content = content; locks = locks; given = given; stamp = stamp; files = filesOf dataFile indexFile; backup = backup }
 
 abbrev pub exportOf : Call → (given : List ℕ) → Stamp → (dataFile indexFile : List ℕ) → Input
-exportOf c given stamp dataFile indexFile = besideOf c [] [] given stamp dataFile indexFile
+exportOf c given stamp dataFile indexFile = besideOf c [] [] given stamp dataFile indexFile []
+
+abbrev pub restoreOf : ℕ → List ℕ → Input
+restoreOf i backup = besideOf (call.Restore i) [] [] [] noStamp [] [] backup
 
 -- an outcome and the lent slices at exit
 abbrev pub resultOf : Outcome → List ℕ → List ℕ → Result

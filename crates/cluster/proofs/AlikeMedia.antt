@@ -23,7 +23,7 @@ use Rattle.storage.specs.declared.slot.Slot.{Slot}
 use Rattle.storage.specs.declared.slot.Current.{Current}
 use Rattle.storage.specs.declared.slot.Current.the-variants.{First, Second, Neither}
 use Rattle.storage.specs.declared.operation.Target.{Target}
-use Rattle.storage.specs.declared.operation.Target.the-variants.{Whole, Mark}
+use Rattle.storage.specs.declared.operation.Target.the-variants.{Whole, Mark, LowWater}
 use Rattle.storage.specs.Sizes.{slotSize, placeSize, mediumSize, placeOffset}
 use Rattle.storage.specs.Slots.{otherAt}
 use Rattle.storage.specs.Log.{placeAt}
@@ -251,13 +251,14 @@ module _ (N : ℕ) where
       go true = tt
       go false = (slot-write c _, tt)
 
-  closing-fits : (n : ℕ) (to : Target) → n ≤ N → AllWrites N (closing n to) (closing n to)
+  closing-fits : (n low : ℕ) (to : Target) → n ≤ N → AllWrites N (closing n low to) (closing n low to)
   unfolding AllWrites closing
-  closing-fits n Whole l = tt
-  closing-fits n (Mark t) l = truncation-fits n t l
+  closing-fits n low Whole l = tt
+  closing-fits n low (Mark t) l = truncation-fits n t l
+  closing-fits n low LowWater l = truncation-fits n low l
 
-  pub prepare-fits : (c : Current) (x : Slot) (s n : ℕ) (to : Target) → n ≤ N → AllWrites N (promising c x s ++ closing n to) (promising c x s ++ closing n to)
-  prepare-fits c x s n to l = joined (promising c x s) (closing n to) (promising-fits c x s) (closing-fits n to l)
+  pub prepare-fits : (c : Current) (x : Slot) (s n : ℕ) (to : Target) → n ≤ N → AllWrites N (promising c x s ++ closing n (x .low) to) (promising c x s ++ closing n (x .low) to)
+  prepare-fits c x s n to l = joined (promising c x s) (closing n (x .low) to) (promising-fits c x s) (closing-fits n (x .low) to l)
 
   pub append-fits : (n : ℕ) (p q : List ℕ) → n < N → AlikePlace p q → length p ≡ placeSize → length q ≡ placeSize
       → AllWrites N (placeWrite (n + 1) p ∷ []) (placeWrite (n + 1) q ∷ [])

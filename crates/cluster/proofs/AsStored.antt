@@ -43,23 +43,23 @@ use Rattle.cluster.proofs.Window.{within}
 
 abbrev pub ReadAsStored : Type 0
 ReadAsStored =
-    (h : Shape) (x : State) (s i n : ℕ) (f : Fate) (content locks given : List ℕ) (stamp : Stamp) (files : Files) (values : List ℕ)
-    → let r = step h x (making (call.Read s i n f) content locks given stamp files) in
+    (h : Shape) (x : State) (s i n : ℕ) (f : Fate) (content locks given : List ℕ) (stamp : Stamp) (files : Files) (backup : List ℕ) (values : List ℕ)
+    → let r = step h x (making (call.Read s i n f) content locks given stamp files backup) in
     r .reply ≡ ok values
     → r .bytes ≡ placeAt n (mediumAt (h .places) i (x .media))
 
 abbrev pub CopiedAsStored : Type 0
 CopiedAsStored =
-    (h : Shape) (x : State) (s a b : ℕ) (f : Fate) (content locks given : List ℕ) (stamp : Stamp) (files : Files) (values : List ℕ)
-    → let r = step h x (making (call.Copy s a b f) content locks given stamp files) in
+    (h : Shape) (x : State) (s a b : ℕ) (f : Fate) (content locks given : List ℕ) (stamp : Stamp) (files : Files) (backup : List ℕ) (values : List ℕ)
+    → let r = step h x (making (call.Copy s a b f) content locks given stamp files backup) in
     let n = markAt (serverAt (x .records) s) b + 1 in
     r .reply ≡ ok values
     → placeAt n (mediumAt (h .places) b (r .state .media)) ≡ placeAt n (mediumAt (h .places) a (x .media))
 
 abbrev pub SentAsHeld : Type 0
 SentAsHeld =
-    (h : Shape) (x : State) (s i : ℕ) (f : Fate) (content locks given : List ℕ) (stamp : Stamp) (files : Files) (values : List ℕ)
-    → let r = step h x (making (call.Send s i f) content locks given stamp files) in
+    (h : Shape) (x : State) (s i : ℕ) (f : Fate) (content locks given : List ℕ) (stamp : Stamp) (files : Files) (backup : List ℕ) (values : List ℕ)
+    → let r = step h x (making (call.Send s i f) content locks given stamp files backup) in
     let v = serverAt (x .records) s in
     let n = markAt v i + 1 in
     length (v .held) ≡ heldSize
@@ -122,16 +122,16 @@ not-refused N v media i false a slot promise mark = absurd (false≢true a)
 
 pub read-as-stored : ReadAsStored
 unfolding step unless readEffect
-read-as-stored h x s i n f content locks given stamp files values q =
-    let p = making (call.Read s i n f) content locks given stamp files in
+read-as-stored h x s i n f content locks given stamp files backup values q =
+    let p = making (call.Read s i n f) content locks given stamp files backup in
     let through = ok-passes (rowsOf h x p) x (effect h x p (p .call)) values q in
     let a = is-answered (answered f) _ values (rw through at q) in
     rw (through, a)
 
 pub copied-as-stored : CopiedAsStored
 unfolding step unless appendEffect
-copied-as-stored h x s a b f content locks given stamp files values q =
-    let p = making (call.Copy s a b f) content locks given stamp files in
+copied-as-stored h x s a b f content locks given stamp files backup values q =
+    let p = making (call.Copy s a b f) content locks given stamp files backup in
     let through = ok-passes (rowsOf h x p) x (effect h x p (p .call)) values q in
     let none = passed (rowsOf h x p) through in
     let v = serverAt (x .records) s in
@@ -150,8 +150,8 @@ copied-as-stored h x s a b f content locks given stamp files values q =
 
 pub sent-as-held : SentAsHeld
 unfolding step unless appendEffect
-sent-as-held h x s i f content locks given stamp files values held q =
-    let p = making (call.Send s i f) content locks given stamp files in
+sent-as-held h x s i f content locks given stamp files backup values held q =
+    let p = making (call.Send s i f) content locks given stamp files backup in
     let through = ok-passes (rowsOf h x p) x (effect h x p (p .call)) values q in
     let none = passed (rowsOf h x p) through in
     let v = serverAt (x .records) s in

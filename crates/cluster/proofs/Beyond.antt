@@ -62,6 +62,7 @@ module _ (h : Shape) (x : State) (p : Input) (i : ℕ) (l : h .replicas ≤ i) w
   after (call.Export s j f) = refl
   after (call.Stop s) = refl
   after call.Reassign = refl
+  after (call.Restore j) = ?
 
   unless-kept : (d : Verdict) → entryAt (unless d x (effect h x p (p .call)) .state .records .register .entries) i ≡ entryAt (g .entries) i
   unfolding unless

@@ -28,35 +28,35 @@ use Rattle.cluster.proofs.Declines.{effect-never-no}
 
 -- ---- the statements
 
-abbrev issue : ℕ → Request → List ℕ → List ℕ → List ℕ → Stamp → Files → Input
-issue s q content locks given stamp files = record { call = call.Issue s q; content = content; locks = locks; given = given; stamp = stamp; files = files }
+abbrev issue : ℕ → Request → List ℕ → List ℕ → List ℕ → Stamp → Files → List ℕ → Input
+issue s q content locks given stamp files backup = record { call = call.Issue s q; content = content; locks = locks; given = given; stamp = stamp; files = files; backup = backup }
 
 abbrev pub DueExactly : Type 0
 DueExactly =
-    (h : Shape) (x : State) (s : ℕ) (q : Request) (content locks given : List ℕ) (stamp : Stamp) (files : Files)
-    → let p = issue s q content locks given stamp files in
+    (h : Shape) (x : State) (s : ℕ) (q : Request) (content locks given : List ℕ) (stamp : Stamp) (files : Files) (backup : List ℕ)
+    → let p = issue s q content locks given stamp files backup in
     let v = serverAt (x .records) s in
     firstOf (until 23 (rowsOf h x p)) ≡ pass
     → (step h x p .reply ≡ no 23 []) ↔ (v .start + h .interval ≤ v .issued)
 
 abbrev pub WithinInterval : Type 0
 WithinInterval =
-    (h : Shape) (x : State) (s : ℕ) (q : Request) (content locks given : List ℕ) (stamp : Stamp) (files : Files) (n : ℕ) (vs : List ℕ)
-    → step h x (issue s q content locks given stamp files) .reply ≡ ok (n ∷ vs)
+    (h : Shape) (x : State) (s : ℕ) (q : Request) (content locks given : List ℕ) (stamp : Stamp) (files : Files) (backup : List ℕ) (n : ℕ) (vs : List ℕ)
+    → step h x (issue s q content locks given stamp files backup) .reply ≡ ok (n ∷ vs)
     → n ≤ serverAt (x .records) s .start + h .interval
 
 abbrev pub NeverDue : Type 0
 NeverDue =
-    (h : Shape) (x : State) (s : ℕ) (q : Request) (content locks given : List ℕ) (stamp : Stamp) (files : Files) (values : List ℕ)
+    (h : Shape) (x : State) (s : ℕ) (q : Request) (content locks given : List ℕ) (stamp : Stamp) (files : Files) (backup : List ℕ) (values : List ℕ)
     → h .interval ≡ h .places
-    → step h x (issue s q content locks given stamp files) .reply ≡ no 23 values
+    → step h x (issue s q content locks given stamp files backup) .reply ≡ no 23 values
     → ⊥
 
 -- ---- when it is given
 
-module _ (h : Shape) (x : State) (s : ℕ) (q : Request) (content locks given : List ℕ) (stamp : Stamp) (files : Files) where
+module _ (h : Shape) (x : State) (s : ℕ) (q : Request) (content locks given : List ℕ) (stamp : Stamp) (files : Files) (backup : List ℕ) where
   abbrev p : Input
-  p = issue s q content locks given stamp files
+  p = issue s q content locks given stamp files backup
 
   abbrev v : Server
   v = serverAt (x .records) s
@@ -98,17 +98,17 @@ module _ (h : Shape) (x : State) (s : ℕ) (q : Request) (content locks given : 
       )
 
 pub due-exactly : DueExactly
-due-exactly h x s q content locks given stamp files k = (when-due h x s q content locks given stamp files [], then-due h x s q content locks given stamp files k)
+due-exactly h x s q content locks given stamp files backup k = (when-due h x s q content locks given stamp files backup [], then-due h x s q content locks given stamp files backup k)
 
 pub never-due : NeverDue
-never-due h x s q content locks given stamp files = not-due h x s q content locks given stamp files
+never-due h x s q content locks given stamp files backup = not-due h x s q content locks given stamp files backup
 
 -- ---- an ID that is answered
 
 pub within-interval : WithinInterval
 unfolding step unless issueEffect
-within-interval h x s q content locks given stamp files n vs r =
-    let p = issue s q content locks given stamp files in
+within-interval h x s q content locks given stamp files backup n vs r =
+    let p = issue s q content locks given stamp files backup in
     let v = serverAt (x .records) s in
     let all = ok-passes (rowsOf h x p) x (effect h x p (p .call)) (n ∷ vs) r in
     let same : v .issued + 1 ≡ n = cc (rw all at r) in

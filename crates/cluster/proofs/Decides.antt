@@ -51,15 +51,15 @@ pub record TrimDecides (h : Shape) (x : State) (p : Input) (v : Server) (s i : �
 
 abbrev pub OpenStatement : Type 0
 OpenStatement =
-    (h : Shape) (x : State) (s : ℕ) (f : Fate) (content locks given : List ℕ) (stamp : Stamp) (files : Files)
+    (h : Shape) (x : State) (s : ℕ) (f : Fate) (content locks given : List ℕ) (stamp : Stamp) (files : Files) (backup : List ℕ)
     → firstOf (phaseRows h x s onlyOpening ++ (row 6 (isCut f) ∷ [])) ≡ pass
-    → OpenDecides h x (record { call = call.Open s f; content = content; locks = locks; given = given; stamp = stamp; files = files }) (serverAt (x .records) s)
+    → OpenDecides h x (record { call = call.Open s f; content = content; locks = locks; given = given; stamp = stamp; files = files; backup = backup }) (serverAt (x .records) s)
 
 abbrev pub TrimStatement : Type 0
 TrimStatement =
-    (h : Shape) (x : State) (s i : ℕ) (f : Fate) (content locks given : List ℕ) (stamp : Stamp) (files : Files)
+    (h : Shape) (x : State) (s i : ℕ) (f : Fate) (content locks given : List ℕ) (stamp : Stamp) (files : Files) (backup : List ℕ)
     → firstOf (replicaRows h x s (noReplicaAt (h .replicas) i) onlyOpening ++ messageRows h (serverAt (x .records) s) i f given) ≡ pass
-    → TrimDecides h x (record { call = call.Trim s i f; content = content; locks = locks; given = given; stamp = stamp; files = files }) (serverAt (x .records) s) s i f
+    → TrimDecides h x (record { call = call.Trim s i f; content = content; locks = locks; given = given; stamp = stamp; files = files; backup = backup }) (serverAt (x .records) s) s i f
 
 -- ---- what refusals 1 to 3 leave known
 
@@ -104,8 +104,8 @@ flipped f g = (λ a. g .0 (f .0 a), λ c. f .1 (g .1 c))
 
 pub open-decides : OpenStatement
 unfolding step openEffect mentions
-open-decides h x s f content locks given stamp files e =
-    let p : Input = record { call = call.Open s f; content = content; locks = locks; given = given; stamp = stamp; files = files } in
+open-decides h x s f content locks given stamp files backup e =
+    let p : Input = record { call = call.Open s f; content = content; locks = locks; given = given; stamp = stamp; files = files; backup = backup } in
     let v = serverAt (x .records) s in
     let ws = phaseRows h x s onlyOpening ++ (row 6 (isCut f) ∷ []) in
     let us = row 9 (tooFewClean (h .replicas) v (voteMark (h .replicas) v)) ∷ seen f 22 (sessionDiffers (x .records .register) v) ∷ [] in
@@ -121,8 +121,8 @@ open-decides h x s f content locks given stamp files e =
 
 pub trim-decides : TrimStatement
 unfolding step unless mentions
-trim-decides h x s i f content locks given stamp files e =
-    let p : Input = record { call = call.Trim s i f; content = content; locks = locks; given = given; stamp = stamp; files = files } in
+trim-decides h x s i f content locks given stamp files backup e =
+    let p : Input = record { call = call.Trim s i f; content = content; locks = locks; given = given; stamp = stamp; files = files; backup = backup } in
     let v = serverAt (x .records) s in
     let ws = replicaRows h x s (noReplicaAt (h .replicas) i) onlyOpening ++ messageRows h v i f given in
     let us = row 16 (nothingToTrim (voteMark (h .replicas) v) v i) ∷ receivedAt (h .places) v i (x .media) f in

@@ -66,6 +66,7 @@ isAnswered (call.Read s i n f) = answered f
 isAnswered (call.Export s i f) = answered f
 isAnswered (call.Stop s) = true
 isAnswered call.Reassign = true
+isAnswered (call.Restore i) = true
 
 pub record Declines (h : Shape) (x : State) (p : Input) : Type 0 where
   -- "Checked in this order"
@@ -152,6 +153,7 @@ module _ (h : Shape) (x : State) (p : Input) where
   received (call.Export s i f) = (asks _ _, (asks _ _, (asks _ _, (asks _ _, tt))))
   received (call.Stop s) = tt
   received call.Reassign = tt
+  received (call.Restore i) = tt
 
   replies : (c : Call) → (values : List ℕ) × (effect h x p c .reply ≡ cond (isAnswered c) (ok values) silent)
   unfolding prepareEffect trimEffect noteEffect readEffect exportEffect appendEffect takeEffect openEffect issueEffect stopEffect reassignEffect
@@ -167,6 +169,7 @@ module _ (h : Shape) (x : State) (p : Input) where
   replies (call.Export s i f) = (_, refl)
   replies (call.Stop s) = (_, refl)
   replies call.Reassign = (_, refl)
+  replies (call.Restore i) = (_, refl)
 
 never-no : (a : Bool) (us : List ℕ) (n : ℕ) (vs : List ℕ) → cond a (ok us) silent ≡ no n vs → ⊥
 never-no true us n vs e = let z : _≡_ {A = ℕ} 0 1 = cc in omega arith
@@ -178,21 +181,22 @@ effect-never-no h x p n values q = let r = replies h x p (p .call) in never-no (
 
 -- ---- a call
 
-ordered : (h : Shape) (x : State) (content locks given : List ℕ) (stamp : Stamp) (files : Files) (c : Call)
-    → follows (map (λ w. w .number) (rowsOf h x (record { call = c; content = content; locks = locks; given = given; stamp = stamp; files = files }))) order ≡ true
+ordered : (h : Shape) (x : State) (content locks given : List ℕ) (stamp : Stamp) (files : Files) (backup : List ℕ) (c : Call)
+    → follows (map (λ w. w .number) (rowsOf h x (record { call = c; content = content; locks = locks; given = given; stamp = stamp; files = files; backup = backup }))) order ≡ true
 unfolding follows
-ordered h x content locks given stamp files (call.Take s f) = refl
-ordered h x content locks given stamp files (call.Prepare s i f) = refl
-ordered h x content locks given stamp files (call.Copy s a b f) = refl
-ordered h x content locks given stamp files (call.Trim s i f) = refl
-ordered h x content locks given stamp files (call.Open s f) = refl
-ordered h x content locks given stamp files (call.Issue s q) = refl
-ordered h x content locks given stamp files (call.Send s i f) = refl
-ordered h x content locks given stamp files (call.Note s i f) = refl
-ordered h x content locks given stamp files (call.Read s i n f) = refl
-ordered h x content locks given stamp files (call.Export s i f) = refl
-ordered h x content locks given stamp files (call.Stop s) = refl
-ordered h x content locks given stamp files call.Reassign = refl
+ordered h x content locks given stamp files backup (call.Take s f) = refl
+ordered h x content locks given stamp files backup (call.Prepare s i f) = refl
+ordered h x content locks given stamp files backup (call.Copy s a b f) = refl
+ordered h x content locks given stamp files backup (call.Trim s i f) = refl
+ordered h x content locks given stamp files backup (call.Open s f) = refl
+ordered h x content locks given stamp files backup (call.Issue s q) = refl
+ordered h x content locks given stamp files backup (call.Send s i f) = refl
+ordered h x content locks given stamp files backup (call.Note s i f) = refl
+ordered h x content locks given stamp files backup (call.Read s i n f) = refl
+ordered h x content locks given stamp files backup (call.Export s i f) = refl
+ordered h x content locks given stamp files backup (call.Stop s) = refl
+ordered h x content locks given stamp files backup call.Reassign = refl
+ordered h x content locks given stamp files backup (call.Restore i) = refl
 
 module _ (h : Shape) (x : State) (p : Input) where
   abbrev ws : List Row
@@ -236,7 +240,7 @@ module _ (h : Shape) (x : State) (p : Input) where
 
 pub declines : Statement
 declines h x p = record {
-  ordered = ordered h x (p .content) (p .locks) (p .given) (p .stamp) (p .files) (p .call);
+  ordered = ordered h x (p .content) (p .locks) (p .given) (p .stamp) (p .files) (p .backup) (p .call);
   exactly = λ n values. (first-of-no h x p n values, no-of-first h x p n values);
   unchanged = λ n values e. let d = first-of-no h x p n values e in let q = by-first h x p (d .at) (d .first) in (ap (λ r. r .state) q, ap (λ r. r .bytes) q);
   only-ok = only-ok h x p;

@@ -34,8 +34,8 @@ pub record Exported (N : ℕ) (m : List ℕ) (a : ℕ) (z : Stamp) (files : File
 
 abbrev pub Statement : Type 0
 Statement =
-    (h : Shape) (x : State) (s i : ℕ) (f : Fate) (content locks given : List ℕ) (stamp : Stamp) (files : Files) (values : List ℕ)
-    → (let p : Input = record { call = call.Export s i f; content = content; locks = locks; given = given; stamp = stamp; files = files } in
+    (h : Shape) (x : State) (s i : ℕ) (f : Fate) (content locks given : List ℕ) (stamp : Stamp) (files : Files) (backup : List ℕ) (values : List ℕ)
+    → (let p : Input = record { call = call.Export s i f; content = content; locks = locks; given = given; stamp = stamp; files = files; backup = backup } in
     step h x p .reply ≡ ok values
     → Exported (h .places) (mediumAt (h .places) i (x .media)) (serverAt (x .records) s .acked) stamp (filesAfter h x p))
 
@@ -49,8 +49,8 @@ in-log N a m (suc k) lo hi =
 
 pub exports : Statement
 unfolding step unless exportEffect markDiffers filesAfter ifOk
-exports h x s i f content locks given stamp files values q =
-    let p : Input = record { call = call.Export s i f; content = content; locks = locks; given = given; stamp = stamp; files = files } in
+exports h x s i f content locks given stamp files backup values q =
+    let p : Input = record { call = call.Export s i f; content = content; locks = locks; given = given; stamp = stamp; files = files; backup = backup } in
     let v = serverAt (x .records) s in
     let N = h .places in
     let m = mediumAt N i (x .media) in

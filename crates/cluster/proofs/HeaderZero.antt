@@ -29,16 +29,16 @@ use Rattle.cluster.proofs.Declines.{effect-never-no}
 
 abbrev pub ZeroExactly : Type 0
 ZeroExactly =
-    (h : Shape) (x : State) (s : ℕ) (q : Request) (content locks given : List ℕ) (stamp : Stamp) (files : Files)
-    → let p = making (call.Issue s q) content locks given stamp files in
+    (h : Shape) (x : State) (s : ℕ) (q : Request) (content locks given : List ℕ) (stamp : Stamp) (files : Files) (backup : List ℕ)
+    → let p = making (call.Issue s q) content locks given stamp files backup in
     firstOf (until 28 (rowsOf h x p)) ≡ pass
     → (step h x p .reply ≡ no 28 []) ↔ (q .header ≡ 0)
 
 -- "just after 12": the numbers before it and behind it in an issue's list
 abbrev pub JustAfter12 : Type 0
 JustAfter12 =
-    (h : Shape) (x : State) (s : ℕ) (q : Request) (content locks given : List ℕ) (stamp : Stamp) (files : Files)
-    → let ws = rowsOf h x (making (call.Issue s q) content locks given stamp files) in
+    (h : Shape) (x : State) (s : ℕ) (q : Request) (content locks given : List ℕ) (stamp : Stamp) (files : Files) (backup : List ℕ)
+    → let ws = rowsOf h x (making (call.Issue s q) content locks given stamp files backup) in
     (map (λ w. w .number) (until 28 ws) ≡ 1 ∷ 2 ∷ 3 ∷ 5 ∷ 10 ∷ 11 ∷ 12 ∷ []) × (map (λ w. w .number) (beyond 28 ws) ≡ 13 ∷ 14 ∷ 23 ∷ 15 ∷ [])
 
 -- the same request with another header
@@ -48,15 +48,15 @@ withHeader q k =
 
 abbrev pub NowhereElse : Type 0
 NowhereElse =
-    (h : Shape) (x : State) (s : ℕ) (q : Request) (k : ℕ) (content locks given : List ℕ) (stamp : Stamp) (files : Files)
-    → let ws = rowsOf h x (making (call.Issue s q) content locks given stamp files) in
-    let us = rowsOf h x (making (call.Issue s (withHeader q k)) content locks given stamp files) in
+    (h : Shape) (x : State) (s : ℕ) (q : Request) (k : ℕ) (content locks given : List ℕ) (stamp : Stamp) (files : Files) (backup : List ℕ)
+    → let ws = rowsOf h x (making (call.Issue s q) content locks given stamp files backup) in
+    let us = rowsOf h x (making (call.Issue s (withHeader q k)) content locks given stamp files backup) in
     (until 28 ws ≡ until 28 us) × (beyond 28 ws ≡ beyond 28 us)
 
 abbrev pub Taken : Type 0
 Taken =
-    (h : Shape) (x : State) (s : ℕ) (q : Request) (content locks given : List ℕ) (stamp : Stamp) (files : Files) (n : ℕ) (vs : List ℕ)
-    → step h x (making (call.Issue s q) content locks given stamp files) .reply ≡ ok (n ∷ vs)
+    (h : Shape) (x : State) (s : ℕ) (q : Request) (content locks given : List ℕ) (stamp : Stamp) (files : Files) (backup : List ℕ) (n : ℕ) (vs : List ℕ)
+    → step h x (making (call.Issue s q) content locks given stamp files backup) .reply ≡ ok (n ∷ vs)
     → (1 ≤ q .header) × (issuedFields n q .header ≡ q .header)
 
 -- an issue of a request with header 0
@@ -74,9 +74,9 @@ OnlyIssue =
 
 -- ---- when it is given
 
-module _ (h : Shape) (x : State) (s : ℕ) (q : Request) (content locks given : List ℕ) (stamp : Stamp) (files : Files) where
+module _ (h : Shape) (x : State) (s : ℕ) (q : Request) (content locks given : List ℕ) (stamp : Stamp) (files : Files) (backup : List ℕ) where
   abbrev asked : Input
-  asked = making (call.Issue s q) content locks given stamp files
+  asked = making (call.Issue s q) content locks given stamp files backup
 
   by-28 : (values : List ℕ)
       → (step h x asked .reply ≡ no 28 values) ↔ ((firstOf (until 28 (rowsOf h x asked)) ≡ pass) × (headerZero q ≡ true) × (values ≡ []))
@@ -86,22 +86,22 @@ module _ (h : Shape) (x : State) (s : ℕ) (q : Request) (content locks given : 
       (effect-never-no h x asked 28 values)
 
 pub zero-exactly : ZeroExactly
-zero-exactly h x s q content locks given stamp files k =
-    let given-28 = by-28 h x s q content locks given stamp files [] in
+zero-exactly h x s q content locks given stamp files backup k =
+    let given-28 = by-28 h x s q content locks given stamp files backup [] in
     (λ r. eqb-true (q .header) 0 (given-28 .0 r .1), λ z. given-28 .1 (k, eq-eqb (q .header) 0 z, refl))
 
 pub just-after-12 : JustAfter12
 unfolding until beyond
-just-after-12 h x s q content locks given stamp files = (refl, refl)
+just-after-12 h x s q content locks given stamp files backup = (refl, refl)
 
 pub nowhere-else : NowhereElse
 unfolding until beyond
-nowhere-else h x s q k content locks given stamp files = (refl, refl)
+nowhere-else h x s q k content locks given stamp files backup = (refl, refl)
 
 pub taken : Taken
 unfolding step
-taken h x s q content locks given stamp files n vs r =
-    let p = making (call.Issue s q) content locks given stamp files in
+taken h x s q content locks given stamp files backup n vs r =
+    let p = making (call.Issue s q) content locks given stamp files backup in
     let all = ok-passes (rowsOf h x p) x (effect h x p (p .call)) (n ∷ vs) r in
     (omega (arith, eqb-false (q .header) 0 (passed (rowsOf h x p) all 28)), refl)
 
@@ -110,24 +110,24 @@ unmentioned : (h : Shape) (x : State) (p : Input) (values : List ℕ) → mentio
 unfolding step
 unmentioned h x p values e r = effect-never-no h x p 28 values (other-number (rowsOf h x p) x (effect h x p (p .call)) 28 values e r)
 
-by-issue : (h : Shape) (x : State) (content locks given : List ℕ) (stamp : Stamp) (files : Files) (values : List ℕ) (c : Call)
-    → step h x (making c content locks given stamp files) .reply ≡ no 28 values
+by-issue : (h : Shape) (x : State) (content locks given : List ℕ) (stamp : Stamp) (files : Files) (backup : List ℕ) (values : List ℕ) (c : Call)
+    → step h x (making c content locks given stamp files backup) .reply ≡ no 28 values
     → ZeroIssue c × (values ≡ [])
 unfolding mentions
-by-issue h x content locks given stamp files values (call.Issue s q) r =
-    let held = by-28 h x s q content locks given stamp files values .0 r in
+by-issue h x content locks given stamp files backup values (call.Issue s q) r =
+    let held = by-28 h x s q content locks given stamp files backup values .0 r in
     (record { server = s; request = q; issues = refl; zero = eqb-true (q .header) 0 (held .1) }, held .2)
-by-issue h x content locks given stamp files values (call.Take s f) r = absurd (unmentioned h x _ values refl r)
-by-issue h x content locks given stamp files values (call.Prepare s i f) r = absurd (unmentioned h x _ values refl r)
-by-issue h x content locks given stamp files values (call.Copy s a b f) r = absurd (unmentioned h x _ values refl r)
-by-issue h x content locks given stamp files values (call.Trim s i f) r = absurd (unmentioned h x _ values refl r)
-by-issue h x content locks given stamp files values (call.Open s f) r = absurd (unmentioned h x _ values refl r)
-by-issue h x content locks given stamp files values (call.Send s i f) r = absurd (unmentioned h x _ values refl r)
-by-issue h x content locks given stamp files values (call.Note s i f) r = absurd (unmentioned h x _ values refl r)
-by-issue h x content locks given stamp files values (call.Read s i n f) r = absurd (unmentioned h x _ values refl r)
-by-issue h x content locks given stamp files values (call.Export s i f) r = absurd (unmentioned h x _ values refl r)
-by-issue h x content locks given stamp files values (call.Stop s) r = absurd (unmentioned h x _ values refl r)
-by-issue h x content locks given stamp files values call.Reassign r = absurd (unmentioned h x _ values refl r)
+by-issue h x content locks given stamp files backup values (call.Take s f) r = absurd (unmentioned h x _ values refl r)
+by-issue h x content locks given stamp files backup values (call.Prepare s i f) r = absurd (unmentioned h x _ values refl r)
+by-issue h x content locks given stamp files backup values (call.Copy s a b f) r = absurd (unmentioned h x _ values refl r)
+by-issue h x content locks given stamp files backup values (call.Trim s i f) r = absurd (unmentioned h x _ values refl r)
+by-issue h x content locks given stamp files backup values (call.Open s f) r = absurd (unmentioned h x _ values refl r)
+by-issue h x content locks given stamp files backup values (call.Send s i f) r = absurd (unmentioned h x _ values refl r)
+by-issue h x content locks given stamp files backup values (call.Note s i f) r = absurd (unmentioned h x _ values refl r)
+by-issue h x content locks given stamp files backup values (call.Read s i n f) r = absurd (unmentioned h x _ values refl r)
+by-issue h x content locks given stamp files backup values (call.Export s i f) r = absurd (unmentioned h x _ values refl r)
+by-issue h x content locks given stamp files backup values (call.Stop s) r = absurd (unmentioned h x _ values refl r)
+by-issue h x content locks given stamp files backup values call.Reassign r = absurd (unmentioned h x _ values refl r)
 
 pub only-issue : OnlyIssue
-only-issue h x p values r = by-issue h x (p .content) (p .locks) (p .given) (p .stamp) (p .files) values (p .call) r
+only-issue h x p values r = by-issue h x (p .content) (p .locks) (p .given) (p .stamp) (p .files) (p .backup) values (p .call) r

@@ -33,16 +33,16 @@ use Rattle.cluster.proofs.Window.{within, is-within}
 
 abbrev pub ManyExactly : Type 0
 ManyExactly =
-    (h : Shape) (x : State) (s : ℕ) (q : Request) (content locks given : List ℕ) (stamp : Stamp) (files : Files)
-    → let p = making (call.Issue s q) content locks given stamp files in
+    (h : Shape) (x : State) (s : ℕ) (q : Request) (content locks given : List ℕ) (stamp : Stamp) (files : Files) (backup : List ℕ)
+    → let p = making (call.Issue s q) content locks given stamp files backup in
     let v = serverAt (x .records) s in
     firstOf (until 13 (rowsOf h x p)) ≡ pass
     → (step h x p .reply ≡ no 13 []) ↔ (v .acked + 8 ≤ v .issued)
 
 abbrev pub UnheldExactly : Type 0
 UnheldExactly =
-    (h : Shape) (x : State) (s i : ℕ) (f : Fate) (content locks given : List ℕ) (stamp : Stamp) (files : Files)
-    → let p = making (call.Send s i f) content locks given stamp files in
+    (h : Shape) (x : State) (s i : ℕ) (f : Fate) (content locks given : List ℕ) (stamp : Stamp) (files : Files) (backup : List ℕ)
+    → let p = making (call.Send s i f) content locks given stamp files backup in
     let v = serverAt (x .records) s in
     let n = markAt v i + 1 in
     firstOf (until 16 (rowsOf h x p)) ≡ pass
@@ -50,15 +50,15 @@ UnheldExactly =
 
 abbrev pub Settled : Type 0
 Settled =
-    (h : Shape) (x : State) (s : ℕ) (q : Request) (content locks given : List ℕ) (stamp : Stamp) (files : Files)
-    → firstOf (rowsOf h x (making (call.Issue s q) content locks given stamp files)) ≡ pass
+    (h : Shape) (x : State) (s : ℕ) (q : Request) (content locks given : List ℕ) (stamp : Stamp) (files : Files) (backup : List ℕ)
+    → firstOf (rowsOf h x (making (call.Issue s q) content locks given stamp files backup)) ≡ pass
     → (k : ℕ) → List·Memᴰ k locks → estimateOf (tableAt s (x .tables)) k ≤ serverAt (x .records) s .acked
 
 -- ---- their proofs
 
-module _ (h : Shape) (x : State) (s : ℕ) (q : Request) (content locks given : List ℕ) (stamp : Stamp) (files : Files) where
+module _ (h : Shape) (x : State) (s : ℕ) (q : Request) (content locks given : List ℕ) (stamp : Stamp) (files : Files) (backup : List ℕ) where
   abbrev asked : Input
-  asked = making (call.Issue s q) content locks given stamp files
+  asked = making (call.Issue s q) content locks given stamp files backup
 
   abbrev many : Bool
   many = unacknowledged (serverAt (x .records) s)
@@ -70,14 +70,14 @@ module _ (h : Shape) (x : State) (s : ℕ) (q : Request) (content locks given : 
       (effect-never-no h x asked 13 [])
 
 pub many-exactly : ManyExactly
-many-exactly h x s q content locks given stamp files k =
+many-exactly h x s q content locks given stamp files backup k =
     let v = serverAt (x .records) s in
-    let row = by-13 h x s q content locks given stamp files in
+    let row = by-13 h x s q content locks given stamp files backup in
     (λ r. leb-true (v .acked + 8) (v .issued) (row .0 r .1), λ l. row .1 (k, le-leb (v .acked + 8) (v .issued) l, refl))
 
-module _ (h : Shape) (x : State) (s i : ℕ) (f : Fate) (content locks given : List ℕ) (stamp : Stamp) (files : Files) where
+module _ (h : Shape) (x : State) (s i : ℕ) (f : Fate) (content locks given : List ℕ) (stamp : Stamp) (files : Files) (backup : List ℕ) where
   abbrev sent : Input
-  sent = making (call.Send s i f) content locks given stamp files
+  sent = making (call.Send s i f) content locks given stamp files backup
 
   abbrev nothing : Bool
   nothing = nothingToSend (serverAt (x .records) s) i
@@ -100,15 +100,15 @@ held-or-not v n = (
     go false e w = refl
 
 pub unheld-exactly : UnheldExactly
-unheld-exactly h x s i f content locks given stamp files k =
+unheld-exactly h x s i f content locks given stamp files backup k =
     let v = serverAt (x .records) s in
-    let row = by-16 h x s i f content locks given stamp files in
+    let row = by-16 h x s i f content locks given stamp files backup in
     let held = held-or-not v (markAt v i + 1) in
     (λ r. held .0 (row .0 r .1), λ w. row .1 (k, held .1 w, refl))
 
 -- 15 and 11
 pub settled : Settled
-settled h x s q content locks given stamp files e k m =
+settled h x s q content locks given stamp files backup e k m =
     let v = serverAt (x .records) s in
-    let p = making (call.Issue s q) content locks given stamp files in
-    omega (arith, aware h x s q content locks given stamp files e k m, ltb-false (v .acked) (q .mark) (passed (rowsOf h x p) e 11))
+    let p = making (call.Issue s q) content locks given stamp files backup in
+    omega (arith, aware h x s q content locks given stamp files backup e k m, ltb-false (v .acked) (q .mark) (passed (rowsOf h x p) e 11))

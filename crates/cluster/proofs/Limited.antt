@@ -41,18 +41,18 @@ UnderAny =
     (l : Limits) (h : Shape) (x : State) (s : ℕ) (q : Request) (content locks : List ℕ)
     → Limited l content locks (listOf (issueChecks l h x s q content locks)) (issueUnder l h x s q content locks)
 
-abbrev issue : ℕ → Request → List ℕ → List ℕ → List ℕ → Stamp → Files → Input
-issue s q content locks given stamp files = record { call = call.Issue s q; content = content; locks = locks; given = given; stamp = stamp; files = files }
+abbrev issue : ℕ → Request → List ℕ → List ℕ → List ℕ → Stamp → Files → List ℕ → Input
+issue s q content locks given stamp files backup = record { call = call.Issue s q; content = content; locks = locks; given = given; stamp = stamp; files = files; backup = backup }
 
 abbrev pub OwnPair : Type 0
 OwnPair =
-    (h : Shape) (x : State) (s : ℕ) (q : Request) (content locks given : List ℕ) (stamp : Stamp) (files : Files)
-    → step h x (issue s q content locks given stamp files) ≡ issueUnder (limitsOf (q .client)) h x s q content locks
+    (h : Shape) (x : State) (s : ℕ) (q : Request) (content locks given : List ℕ) (stamp : Stamp) (files : Files) (backup : List ℕ)
+    → step h x (issue s q content locks given stamp files backup) ≡ issueUnder (limitsOf (q .client)) h x s q content locks
 
 abbrev pub ForBoth : Type 0
 ForBoth =
-    (h : Shape) (x : State) (s : ℕ) (q : Request) (content locks given : List ℕ) (stamp : Stamp) (files : Files)
-    → let p = issue s q content locks given stamp files in
+    (h : Shape) (x : State) (s : ℕ) (q : Request) (content locks given : List ℕ) (stamp : Stamp) (files : Files) (backup : List ℕ)
+    → let p = issue s q content locks given stamp files backup in
     (q .client < 100 → Limited gateLimits content locks (rowsOf h x p) (step h x p))
     × (100 ≤ q .client → Limited bookingLimits content locks (rowsOf h x p) (step h x p))
 
@@ -95,15 +95,15 @@ under-any = limited
 
 pub own-pair : OwnPair
 unfolding step
-own-pair h x s q content locks given stamp files = refl
+own-pair h x s q content locks given stamp files backup = refl
 
 pub for-both : ForBoth
-for-both h x s q content locks given stamp files =
-    let p = issue s q content locks given stamp files in
+for-both h x s q content locks given stamp files backup =
+    let p = issue s q content locks given stamp files backup in
     let rows = rowsOf h x p in
     let under : Limited (limitsOf (q .client)) content locks rows (issueUnder (limitsOf (q .client)) h x s q content locks) =
     under-any (limitsOf (q .client)) h x s q content locks in
-    let own = subst⁻¹ (Limited (limitsOf (q .client)) content locks rows) (own-pair h x s q content locks given stamp files) under in
+    let own = subst⁻¹ (Limited (limitsOf (q .client)) content locks rows) (own-pair h x s q content locks given stamp files backup) under in
     let held-to : Limits → Type 0 = λ l. Limited l content locks rows (step h x p) in
     (λ g. subst held-to (of-gate (q .client) g) own, λ b. subst held-to (of-booking (q .client) b) own)
 

@@ -29,8 +29,8 @@ use Rattle.cluster.proofs.Declines.{effect-never-no}
 
 -- ---- the statements
 
-abbrev issue : ℕ → Request → List ℕ → List ℕ → List ℕ → Stamp → Files → Input
-issue s q content locks given stamp files = record { call = call.Issue s q; content = content; locks = locks; given = given; stamp = stamp; files = files }
+abbrev issue : ℕ → Request → List ℕ → List ℕ → List ℕ → Stamp → Files → List ℕ → Input
+issue s q content locks given stamp files backup = record { call = call.Issue s q; content = content; locks = locks; given = given; stamp = stamp; files = files; backup = backup }
 
 -- the values are the first lock of the request with an estimate above the client's mark, and that estimate
 pub record GivenFirst (table locks : List ℕ) (client : ℕ) (values : List ℕ) : Type 0 where
@@ -41,14 +41,14 @@ pub record GivenFirst (table locks : List ℕ) (client : ℕ) (values : List ℕ
 
 abbrev pub LockedExactly : Type 0
 LockedExactly =
-    (h : Shape) (x : State) (s : ℕ) (q : Request) (content locks given : List ℕ) (stamp : Stamp) (files : Files) (values : List ℕ)
-    → let p = issue s q content locks given stamp files in
+    (h : Shape) (x : State) (s : ℕ) (q : Request) (content locks given : List ℕ) (stamp : Stamp) (files : Files) (backup : List ℕ) (values : List ℕ)
+    → let p = issue s q content locks given stamp files backup in
     (step h x p .reply ≡ no 15 values) ↔ ((firstOf (until 15 (rowsOf h x p)) ≡ pass) × GivenFirst (tableAt s (x .tables)) locks (q .mark) values)
 
 abbrev pub Aware : Type 0
 Aware =
-    (h : Shape) (x : State) (s : ℕ) (q : Request) (content locks given : List ℕ) (stamp : Stamp) (files : Files)
-    → firstOf (rowsOf h x (issue s q content locks given stamp files)) ≡ pass
+    (h : Shape) (x : State) (s : ℕ) (q : Request) (content locks given : List ℕ) (stamp : Stamp) (files : Files) (backup : List ℕ)
+    → firstOf (rowsOf h x (issue s q content locks given stamp files backup)) ≡ pass
     → NoneAbove (tableAt s (x .tables)) locks (q .mark)
 
 -- ---- their proofs
@@ -62,9 +62,9 @@ row-free : (t : LockTest) → isHeld t ≡ false → t ≡ Free
 row-free Free b = refl
 row-free (Held k e) b = absurd (true≢false b)
 
-module _ (h : Shape) (x : State) (s : ℕ) (q : Request) (content locks given : List ℕ) (stamp : Stamp) (files : Files) where
+module _ (h : Shape) (x : State) (s : ℕ) (q : Request) (content locks given : List ℕ) (stamp : Stamp) (files : Files) (backup : List ℕ) where
   abbrev p : Input
-  p = issue s q content locks given stamp files
+  p = issue s q content locks given stamp files backup
 
   -- what the locks are judged by
   abbrev table : List ℕ
@@ -101,11 +101,11 @@ module _ (h : Shape) (x : State) (s : ℕ) (q : Request) (content locks given : 
   unlocked k = granted-exactly table locks client .0 (row-free found (passed (rowsOf h x p) k 15))
 
 pub locked-exactly : LockedExactly
-locked-exactly h x s q content locks given stamp files values =
-    let row = by-row h x s q content locks given stamp files values in (
-      λ r. let g = row .0 r in (g .0, first-held h x s q content locks given stamp files values (g .1) (g .2)),
-      λ (k, f). let g = held-first h x s q content locks given stamp files values f in row .1 (k, g .0, g .1),
+locked-exactly h x s q content locks given stamp files backup values =
+    let row = by-row h x s q content locks given stamp files backup values in (
+      λ r. let g = row .0 r in (g .0, first-held h x s q content locks given stamp files backup values (g .1) (g .2)),
+      λ (k, f). let g = held-first h x s q content locks given stamp files backup values f in row .1 (k, g .0, g .1),
     )
 
 pub aware : Aware
-aware h x s q content locks given stamp files = unlocked h x s q content locks given stamp files
+aware h x s q content locks given stamp files backup = unlocked h x s q content locks given stamp files backup

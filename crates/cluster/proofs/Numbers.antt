@@ -20,8 +20,8 @@ use Rattle.cluster.specs.Step.{unless, rest}
 use Rattle.cluster.proofs.Rows.{firstOf-append}
 
 -- a call with its arguments, for laws about one kind of call
-abbrev pub making : Call → List ℕ → List ℕ → List ℕ → Stamp → Files → Input
-making c content locks given stamp files = record { call = c; content = content; locks = locks; given = given; stamp = stamp; files = files }
+abbrev pub making : Call → List ℕ → List ℕ → List ℕ → Stamp → Files → List ℕ → Input
+making c content locks given stamp files backup = record { call = c; content = content; locks = locks; given = given; stamp = stamp; files = files; backup = backup }
 
 -- a row has this number
 unfoldable pub mentions : ℕ → List Row → Bool

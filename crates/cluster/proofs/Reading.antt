@@ -33,9 +33,9 @@ use Rattle.cluster.proofs.Rows.{passed}
 
 abbrev pub Statement : Type 0
 Statement =
-    (h : Shape) (x : State) (s i n : ℕ) (f : Fate) (content locks given : List ℕ) (stamp : Stamp) (files : Files) (values : List ℕ)
+    (h : Shape) (x : State) (s i n : ℕ) (f : Fate) (content locks given : List ℕ) (stamp : Stamp) (files : Files) (backup : List ℕ) (values : List ℕ)
     → Bytes (x .media)
-    → (let p : Input = record { call = call.Read s i n f; content = content; locks = locks; given = given; stamp = stamp; files = files } in
+    → (let p : Input = record { call = call.Read s i n f; content = content; locks = locks; given = given; stamp = stamp; files = files; backup = backup } in
     step h x p .reply ≡ ok values → Written n (step h x p .bytes))
 
 -- ---- its proof
@@ -59,8 +59,8 @@ at-place N (suc k) m e l =
 
 pub reads : Statement
 unfolding step unless readEffect markDiffers placeAt
-reads h x s i n f content locks given stamp files values b q =
-    let p : Input = record { call = call.Read s i n f; content = content; locks = locks; given = given; stamp = stamp; files = files } in
+reads h x s i n f content locks given stamp files backup values b q =
+    let p : Input = record { call = call.Read s i n f; content = content; locks = locks; given = given; stamp = stamp; files = files; backup = backup } in
     let v = serverAt (x .records) s in
     let N = h .places in
     let m = mediumAt N i (x .media) in

@@ -1,6 +1,7 @@
 -- THAT A RECOVERY ARRIVES, the statement; proofs/Arrives.antt has the theorem. Document 02, No. 9: "If it isn't declined, all messages are answered, no number is
 -- at its top, no valid place lies above a listed mark and at least Q of the replicas listed have valid slots and promises not above the new session, it opens.
--- Its count then is 2 + listed replicas + the sum over known ones of what each lacked of the highest mark after prepare."
+-- Its count then is 2 + listed replicas + the sum over known ones of what each lacked of the highest mark after prepare." Document 02, No. 10, beside restored
+-- replicas: it "is sure to open only with Q others", so that the Q are of those listed that are not restored.
 -- It is about every state that the running calls can be handed, not only those that a list of calls from a fresh cluster leaves.
 -- Assumes nothing.
 use Prim.Native.Nat.{ℕ, _+_, _^_, _≤_, _<_}
@@ -18,7 +19,7 @@ use Rattle.quorum.specs.Vote.{quorum}
 use Rattle.cluster.specs.declared.Shape.{Shape}
 use Rattle.cluster.specs.declared.Server.{Server}
 use Rattle.cluster.specs.declared.Phase.the-variants.{Open}
-use Rattle.cluster.specs.State.{State, serverAt, activeAt}
+use Rattle.cluster.specs.State.{State, serverAt, entryAt, activeAt, isRestored}
 use Rattle.cluster.specs.Replies.{ok}
 use Rattle.cluster.specs.Refusals.{noSlot, promiseAbove, sessionAtTop, pass, firstOf}
 use Rattle.recovery.specs.Recovery.{Recovery, Trail, played, one, taking, prepares, serverOf, highestKnown, lacks, contains, recoveryRows, begun, recovered}
@@ -34,6 +35,10 @@ abbrev pub ready : Shape → State → ℕ → Bool
 ready h x i =
     let m = mediumAt (h .places) i (x .media) in
     not (noSlot m) && not (promiseAbove (x .records .register .session + 1) m)
+
+-- the same, and "others" than restored ones: by the register's entry, which its take hands over
+abbrev pub counts : Shape → State → ℕ → Bool
+counts h x i = ready h x i && not (isRestored (entryAt (x .records .register .entries) i .closing))
 
 -- how many of a list
 unfoldable pub howMany : (ℕ → Bool) → List ℕ → ℕ
@@ -61,7 +66,7 @@ pub record Met (h : Shape) (x : State) (d : Recovery) : Type 0 where
   pub below-top : sessionAtTop (x .records .register .session) ≡ false  -- "no number is at its top": take raises the session alone
   pub clean : (i : ℕ) → contains (d .listed) i ≡ true  -- "no valid place lies above a listed mark"
       → let m = mediumAt (h .places) i (x .media) in (n : ℕ) → markOf (h .places) m < n → n ≤ h .places → validPlace n (placeAt n m) ≡ false
-  pub enough : quorum (h .replicas) ≤ howMany (ready h x) (d .listed)  -- "at least Q of the replicas listed have .."
+  pub enough : quorum (h .replicas) ≤ howMany (counts h x) (d .listed)  -- "at least Q of the replicas listed have ..", "Q others"
 
 pub record Arrived (h : Shape) (x : State) (d : Recovery) : Type 0 where
   pub opens : serverAt (recovered h x d .state .records) (d .server) .phase ≡ Open  -- "it opens"

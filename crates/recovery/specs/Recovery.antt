@@ -16,7 +16,7 @@ use Rattle.cluster.specs.declared.Shape.{Shape}
 use Rattle.cluster.specs.declared.Server.{Server}
 use Rattle.cluster.specs.declared.Call.{Call}
 use Rattle.cluster.specs.declared.Call.the-variants as call
-use Rattle.cluster.specs.State.{State, serverAt, markAt, activeAt}
+use Rattle.cluster.specs.State.{State, serverAt, markAt, activeAt, votesAt}
 use Rattle.cluster.specs.Replies.{Reply, ok, no, silent}
 use Rattle.cluster.specs.Refusals.{Input, Row, row, outside, markAbove, noServerAt, noReplicaAt, onlyIdle, wrongPhase, Verdict, pass, declined, firstOf}
 use Rattle.cluster.specs.Effects.{noBytes}
@@ -54,7 +54,7 @@ fateAt d k = getD (d .fates) k Answered
 unfoldable pub givenAt : Recovery → ℕ → List ℕ
 givenAt d k = cond (ltb k (length (d .fates))) (part (k * placeSize) placeSize (d .given)) noBytes
 
--- a call without data and locks, and no export
+-- a call without data and locks, no export and no restore
 abbrev pub bare : Call → List ℕ → Input
 bare c given =
     record {
@@ -64,6 +64,7 @@ bare c given =
       given = given;
       stamp = record { time = 0; key = replicate keySize 0 };
       files = record { dataFile = []; indexFile = [] };
+      backup = [];
     }
 
 -- the next call: those to the register have no bytes beside them
@@ -92,16 +93,18 @@ unfoldable pub prepares : Shape → Recovery → Trail → List ℕ → List Inp
 prepares h d t [] = []
 prepares h d t (i ∷ is) = let p = preparing d t i in p ∷ prepares h d (one h t p) is
 
--- "the highest mark known after the prepares", and "the first that then had it": v is the server's record then
+-- "the highest mark known after the prepares", and "the first that then had it": v is the server's record then. Document 02, No. 10, of restored replicas: "The
+-- driver takes its highest mark from the others, copies from none such"; the others are those that vote. With none of them known the mark is 0, and there is
+-- nothing to copy.
 unfoldable pub highestKnown : Server → List ℕ → ℕ
 highestKnown v [] = 0
-highestKnown v (i ∷ is) = max (cond (activeAt v i) (markAt v i) 0) (highestKnown v is)
+highestKnown v (i ∷ is) = max (cond (votesAt v i) (markAt v i) 0) (highestKnown v is)
 
 unfoldable pub firstAt : Server → ℕ → List ℕ → ℕ
 firstAt v m [] = 0
-firstAt v m (i ∷ is) = cond (activeAt v i && eqb (markAt v i) m) i (firstAt v m is)
+firstAt v m (i ∷ is) = cond (votesAt v i && eqb (markAt v i) m) i (firstAt v m is)
 
--- "copies each known replica .. up to" the mark m, from a to b: a copy while b is below it, until one is without ok. There are at most so many turns; at most
+-- "copies each known replica .. up to" the mark m, restored ones too ("It may receive copies"), from a to b: a copy while b is below it, until one is without ok. There are at most so many turns; at most
 -- what b lacks are needed, since each copy with ok brings at least one record (proofs/TurnsEnough `enough`).
 unfoldable pub copies : Shape → Recovery → ℕ → ℕ → ℕ → ℕ → Trail → List Input
 copies h d a m b zero t = []

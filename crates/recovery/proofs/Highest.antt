@@ -1,4 +1,4 @@
--- The highest mark of a list, who has it, and how many of a list there are.
+-- The highest mark of those of a list that vote, who has it, and how many of a list there are.
 -- Assumes nothing.
 use mathlib.Core.Path.{_≡_, refl, sym, _∙_, subst}
 use mathlib.Core.Bool.{Bool, true, false, cond, _&&_, false≢true}
@@ -13,7 +13,7 @@ use Rattle.base.specs.Below.{bit, count}
 use Rattle.base.proofs.Below.{count-mono}
 use Rattle.base.proofs.Tests.{both, lt-or-le}
 use Rattle.cluster.specs.declared.Server.{Server}
-use Rattle.cluster.specs.State.{markAt, activeAt}
+use Rattle.cluster.specs.State.{markAt, votesAt}
 use Rattle.recovery.specs.Recovery.{contains, repeats, notBelow, highestKnown, firstAt}
 use Rattle.recovery.specs.Arrival.{howMany}
 use Rattle.recovery.proofs.Listed.{first-unique, first-below, first-in, later-in, in-either}
@@ -21,42 +21,42 @@ use Rattle.recovery.proofs.Listed.{first-unique, first-below, first-in,
 -- ---- the highest mark
 
 module _ (v : Server) where
-  pub highest-ge : (is : List ℕ) (i : ℕ) → contains is i ≡ true → activeAt v i ≡ true → markAt v i ≤ highestKnown v is
+  pub highest-ge : (is : List ℕ) (i : ℕ) → contains is i ≡ true → votesAt v i ≡ true → markAt v i ≤ highestKnown v is
   unfolding highestKnown contains
   highest-ge [] i e k = absurd (false≢true e)
   highest-ge (j ∷ is) i e k = ⊎-elim first (λ q. later (highest-ge is i q k)) (in-either j i is e)
     where
-      first : i ≡ j → markAt v i ≤ max (cond (activeAt v j) (markAt v j) 0) (highestKnown v is)
-      first q = let a : activeAt v j ≡ true = rw (sym q) k in rw (a, q) (omega arith)
+      first : i ≡ j → markAt v i ≤ max (cond (votesAt v j) (markAt v j) 0) (highestKnown v is)
+      first q = let a : votesAt v j ≡ true = rw (sym q) k in rw (a, q) (omega arith)
 
-      later : markAt v i ≤ highestKnown v is → markAt v i ≤ max (cond (activeAt v j) (markAt v j) 0) (highestKnown v is)
+      later : markAt v i ≤ highestKnown v is → markAt v i ≤ max (cond (votesAt v j) (markAt v j) 0) (highestKnown v is)
       later q = omega (arith, q)
 
-  -- one of a list that is known and has this mark
+  -- one of a list that votes and has this mark
   pub record Has (is : List ℕ) (mark i : ℕ) : Type 0 where
     pub listed : contains is i ≡ true
-    pub active : activeAt v i ≡ true
+    pub votes : votesAt v i ≡ true
     pub mark-is : markAt v i ≡ mark
 
   more : (j : ℕ) (is : List ℕ) (mark i : ℕ) → Has is mark i → Has (j ∷ is) mark i
-  more j is mark i g = record { listed = later-in j i is (g .listed); active = g .active; mark-is = g .mark-is }
+  more j is mark i g = record { listed = later-in j i is (g .listed); votes = g .votes; mark-is = g .mark-is }
 
-  -- where one is known, one of them has the highest mark
-  attained : (is : List ℕ) → ((i : ℕ) × Has is (highestKnown v is) i) ⊎ ((highestKnown v is ≡ 0) × ((i : ℕ) → contains is i ≡ true → activeAt v i ≡ false))
+  -- where one votes, one of them has the highest mark
+  attained : (is : List ℕ) → ((i : ℕ) × Has is (highestKnown v is) i) ⊎ ((highestKnown v is ≡ 0) × ((i : ℕ) → contains is i ≡ true → votesAt v i ≡ false))
   unfolding highestKnown contains
   attained [] = inr (refl, λ i e. absurd (false≢true e))
-  attained (j ∷ is) = go (activeAt v j) refl (attained is)
+  attained (j ∷ is) = go (votesAt v j) refl (attained is)
     where
-      go : (b : Bool) → activeAt v j ≡ b
-          → ((i : ℕ) × Has is (highestKnown v is) i) ⊎ ((highestKnown v is ≡ 0) × ((i : ℕ) → contains is i ≡ true → activeAt v i ≡ false))
-          → ((i : ℕ) × Has (j ∷ is) (max (cond (activeAt v j) (markAt v j) 0) (highestKnown v is)) i)
-          ⊎ ((max (cond (activeAt v j) (markAt v j) 0) (highestKnown v is) ≡ 0) × ((i : ℕ) → contains (j ∷ is) i ≡ true → activeAt v i ≡ false))
-      go true e (inr (z, n)) = inl (j, record { listed = first-in j is; active = e; mark-is = rw e (omega (arith, z)) })
+      go : (b : Bool) → votesAt v j ≡ b
+          → ((i : ℕ) × Has is (highestKnown v is) i) ⊎ ((highestKnown v is ≡ 0) × ((i : ℕ) → contains is i ≡ true → votesAt v i ≡ false))
+          → ((i : ℕ) × Has (j ∷ is) (max (cond (votesAt v j) (markAt v j) 0) (highestKnown v is)) i)
+          ⊎ ((max (cond (votesAt v j) (markAt v j) 0) (highestKnown v is) ≡ 0) × ((i : ℕ) → contains (j ∷ is) i ≡ true → votesAt v i ≡ false))
+      go true e (inr (z, n)) = inl (j, record { listed = first-in j is; votes = e; mark-is = rw e (omega (arith, z)) })
       go true e (inl (i, g)) = ⊎-elim
-          (λ (q : markAt v j < markAt v i). inl (i, record { listed = later-in j i is (g .listed); active = g .active; mark-is = rw e (omega (arith, q, g .mark-is)) }))
-          (λ (q : markAt v i ≤ markAt v j). inl (j, record { listed = first-in j is; active = e; mark-is = rw e (omega (arith, q, g .mark-is)) }))
+          (λ (q : markAt v j < markAt v i). inl (i, record { listed = later-in j i is (g .listed); votes = g .votes; mark-is = rw e (omega (arith, q, g .mark-is)) }))
+          (λ (q : markAt v i ≤ markAt v j). inl (j, record { listed = first-in j is; votes = e; mark-is = rw e (omega (arith, q, g .mark-is)) }))
           (lt-or-le (markAt v j) (markAt v i))
-      go false e (inl (i, g)) = inl (i, record { listed = later-in j i is (g .listed); active = g .active; mark-is = rw e (omega (arith, g .mark-is)) })
+      go false e (inl (i, g)) = inl (i, record { listed = later-in j i is (g .listed); votes = g .votes; mark-is = rw e (omega (arith, g .mark-is)) })
       go false e (inr (z, n)) = inr (rw e (omega (arith, z)), λ i q. ⊎-elim (λ p. rw p e) (n i) (in-either j i is q))
 
   -- the first that has a mark, where one has
@@ -64,23 +64,26 @@ module _ (v : Server) where
   unfolding firstAt contains
   first-found [] mark i g = absurd (false≢true (g .listed))
   first-found (j ∷ is) mark i g =
-      go (λ q. first-found is mark i (record { listed = q; active = g .active; mark-is = g .mark-is })) (activeAt v j && eqb (markAt v j) mark) refl
+      go (λ q. first-found is mark i (record { listed = q; votes = g .votes; mark-is = g .mark-is })) (votesAt v j && eqb (markAt v j) mark) refl
     where
-      later : (contains is i ≡ true → Has is mark (firstAt v mark is)) → (activeAt v j && eqb (markAt v j) mark) ≡ false → Has is mark (firstAt v mark is)
+      later : (contains is i ≡ true → Has is mark (firstAt v mark is)) → (votesAt v j && eqb (markAt v j) mark) ≡ false → Has is mark (firstAt v mark is)
       later r n = ⊎-elim
           (λ q.
-          let here : (activeAt v i && eqb (markAt v i) mark) ≡ true = rw (g .active, eq-eqb (markAt v i) mark (g .mark-is)) in
-          absurd (false≢true (sym n ∙ subst (λ (k : ℕ). (activeAt v k && eqb (markAt v k) mark) ≡ true) q here)))
+          let here : (votesAt v i && eqb (markAt v i) mark) ≡ true = rw (g .votes, eq-eqb (markAt v i) mark (g .mark-is)) in
+          absurd (false≢true (sym n ∙ subst (λ (k : ℕ). (votesAt v k && eqb (markAt v k) mark) ≡ true) q here)))
           r
           (in-either j i is (g .listed))
 
-      go : (contains is i ≡ true → Has is mark (firstAt v mark is)) → (b : Bool) → (activeAt v j && eqb (markAt v j) mark) ≡ b
+      go : (contains is i ≡ true → Has is mark (firstAt v mark is)) → (b : Bool) → (votesAt v j && eqb (markAt v j) mark) ≡ b
           → Has (j ∷ is) mark (cond b j (firstAt v mark is))
-      go r true e = let k = both (activeAt v j) (eqb (markAt v j) mark) e in record { listed = first-in j is; active = k .0; mark-is = eqb-true (markAt v j) mark (k .1) }
+      go r true e = let k = both (votesAt v j) (eqb (markAt v j) mark) e in record { listed = first-in j is; votes = k .0; mark-is = eqb-true (markAt v j) mark (k .1) }
       go r false e = more j is mark (firstAt v mark is) (later r e)
 
-  -- so the source of the copies has the highest mark
-  pub source-has : (is : List ℕ) (i : ℕ) → contains is i ≡ true → activeAt v i ≡ true → Has is (highestKnown v is) (firstAt v (highestKnown v is) is)
+  -- so the source of the copies votes and has the highest mark; where none votes, that mark is 0
+  pub source-or-none : (is : List ℕ) → Has is (highestKnown v is) (firstAt v (highestKnown v is) is) ⊎ (highestKnown v is ≡ 0)
+  source-or-none is = ⊎-elim (λ (j, g). inl (first-found is (highestKnown v is) j g)) (λ (z, n). inr z) (attained is)
+
+  pub source-has : (is : List ℕ) (i : ℕ) → contains is i ≡ true → votesAt v i ≡ true → Has is (highestKnown v is) (firstAt v (highestKnown v is) is)
   source-has is i e k =
       ⊎-elim
       (λ (j, g). first-found is (highestKnown v is) j g)

@@ -104,8 +104,8 @@ unfoldable pub firstAt : Server → ℕ → List ℕ → ℕ
 firstAt v m [] = 0
 firstAt v m (i ∷ is) = cond (votesAt v i && eqb (markAt v i) m) i (firstAt v m is)
 
--- "copies each known replica .. up to" the mark m, restored ones too ("It may receive copies"), from a to b: a copy while b is below it, until one is without ok. There are at most so many turns; at most
--- what b lacks are needed, since each copy with ok brings at least one record (proofs/TurnsEnough `enough`).
+-- "copies each known replica .. up to" the mark m, restored ones too ("It may receive copies"), from a to b: a copy while b is below it, until one is without
+-- ok. There are at most so many turns; at most what b lacks are needed, since each copy with ok brings at least one record (proofs/TurnsEnough `enough`).
 unfoldable pub copies : Shape → Recovery → ℕ → ℕ → ℕ → ℕ → Trail → List Input
 copies h d a m b zero t = []
 copies h d a m b (suc turns) t =

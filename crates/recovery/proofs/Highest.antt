@@ -1,16 +1,16 @@
 -- The highest mark of those of a list that vote, who has it, and how many of a list there are.
 -- Assumes nothing.
-use mathlib.Core.Path.{_≡_, refl, sym, _∙_, subst}
-use mathlib.Core.Bool.{Bool, true, false, cond, _&&_, false≢true}
+use mathlib.Core.Path.{_≡_, refl, sym, ap, _∙_, subst}
+use mathlib.Core.Bool.{Bool, true, false, cond, _&&_, _||_, false≢true}
 use mathlib.Core.Logic.{_⊎_, inl, inr, ⊎-elim}
 use mathlib.Core.List.{List, [], _∷_}
 use Prim.Native.Nat.{ℕ, zero, suc, _+_, _≤_, _<_, max}
 use native.Mathlib.Omega.{arith}
 use native.Mathlib.Decide.{ℕ-discrete}
 use lib.Dec.{eqb}
-use borrow.Author.Tests.{eq-eqb, eqb-true}
+use borrow.Author.Tests.{eq-eqb, ne-eqb, eqb-true}
 use Rattle.base.specs.Below.{bit, count}
-use Rattle.base.proofs.Below.{count-mono}
+use Rattle.base.proofs.Below.{count-mono, count-sum, count-none}
 use Rattle.base.proofs.Tests.{both, lt-or-le}
 use Rattle.cluster.specs.declared.Server.{Server}
 use Rattle.cluster.specs.State.{markAt, votesAt}
@@ -128,3 +128,46 @@ many-listed p q r (i ∷ is) once below f =
         let here : (q i && contains (i ∷ is) i) ≡ true = rw (f i (first-in i is) e, first-in i is) in
         let not-yet : (q i && contains is i) ≡ false = rw (f i (first-in i is) e, first-unique i is once .0) in
         rw e (omega (arith, rest, count-more (λ j. q j && contains is j) (λ j. q j && contains (i ∷ is) j) r i (first-below r i is below .0) not-yet here wider))
+
+-- the other way round: of those that are counted below n, the listed ones are at most as many as the list has
+at-most-one : (q : ℕ → Bool) (j n : ℕ) → count (λ i. q i && eqb j i) n ≤ bit (q j)
+unfolding count
+at-most-one q j zero = omega arith
+at-most-one q j (suc n) = go (at-most-one q j n) (ℕ-discrete j n)
+  where
+    never : (i : ℕ) → (j ≡ i → ⊥) → (q i && eqb j i) ≡ false
+    never i e = rw (ne-eqb j i e) (at (q i))
+      where
+        at : (b : Bool) → (b && false) ≡ false
+        at true = refl
+        at false = refl
+
+    less : (b c : Bool) → bit (b && c) ≤ bit b
+    less true true = omega arith
+    less true false = omega arith
+    less false c = omega arith
+
+    go : count (λ i. q i && eqb j i) n ≤ bit (q j) → Dec (j ≡ n) → count (λ i. q i && eqb j i) n + bit (q n && eqb j n) ≤ bit (q j)
+    go r (yes e) =
+        let before = count-none (λ i. q i && eqb j i) n (λ i l. never i (λ k. omega (arith, k, e, l))) in
+        let here : bit (q n) ≡ bit (q j) = ap (λ (i : ℕ). bit (q i)) (sym e) in
+        omega (arith, before, here, less (q n) (eqb j n))
+    go r (no e) = let z = ap bit (never n e) in omega (arith, r, z)
+
+pub listed-most : (q : ℕ → Bool) (n : ℕ) (is : List ℕ) → count (λ i. q i && contains is i) n ≤ howMany q is
+unfolding howMany contains
+listed-most q n [] = omega (arith, count-none (λ i. q i && false) n (λ i l. at (q i)))
+  where
+    at : (b : Bool) → (b && false) ≡ false
+    at true = refl
+    at false = refl
+listed-most q n (j ∷ is) =
+    let split = count-sum (λ i. q i && (eqb j i || contains is i)) (λ i. false) (λ i. q i && eqb j i) (λ i. q i && contains is i) n (λ i l. at (q i) (eqb j i) (contains is i)) in
+    omega (arith, split, at-most-one q j n, listed-most q n is)
+  where
+    at : (a b c : Bool) → bit (a && (b || c)) + bit false ≤ bit (a && b) + bit (a && c)
+    at true true true = omega arith
+    at true true false = omega arith
+    at true false true = omega arith
+    at true false false = omega arith
+    at false b c = omega arith

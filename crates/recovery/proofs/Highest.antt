@@ -14,22 +14,31 @@ use Rattle.base.proofs.Below.{count-mono, count-sum, count-none}
 use Rattle.base.proofs.Tests.{both, lt-or-le}
 use Rattle.cluster.specs.declared.Server.{Server}
 use Rattle.cluster.specs.State.{markAt, votesAt}
-use Rattle.recovery.specs.Recovery.{contains, repeats, notBelow, highestKnown, firstAt}
+use Rattle.recovery.specs.Recovery.{contains, repeats, notBelow, voterMark, highestKnown, firstAt}
 use Rattle.recovery.specs.Arrival.{howMany}
 use Rattle.recovery.proofs.Listed.{first-unique, first-below, first-in, later-in, in-either}
 
 -- ---- the highest mark
 
 module _ (v : Server) where
+  -- who does not vote, a restored one too, counts with no mark, and who votes with its own
+  no-voter : (i : ℕ) → votesAt v i ≡ false → voterMark v i ≡ 0
+  no-voter i e = ap (λ (b : Bool). cond b (markAt v i) 0) e
+
+  voter : (i : ℕ) → votesAt v i ≡ true → voterMark v i ≡ markAt v i
+  voter i e = ap (λ (b : Bool). cond b (markAt v i) 0) e
+
   pub highest-ge : (is : List ℕ) (i : ℕ) → contains is i ≡ true → votesAt v i ≡ true → markAt v i ≤ highestKnown v is
   unfolding highestKnown contains
   highest-ge [] i e k = absurd (false≢true e)
   highest-ge (j ∷ is) i e k = ⊎-elim first (λ q. later (highest-ge is i q k)) (in-either j i is e)
     where
-      first : i ≡ j → markAt v i ≤ max (cond (votesAt v j) (markAt v j) 0) (highestKnown v is)
-      first q = let a : votesAt v j ≡ true = rw (sym q) k in rw (a, q) (omega arith)
+      first : i ≡ j → markAt v i ≤ max (voterMark v j) (highestKnown v is)
+      first q =
+          let counts : voterMark v i ≤ max (voterMark v j) (highestKnown v is) = rw q (omega arith) in
+          omega (arith, counts, voter i k)
 
-      later : markAt v i ≤ highestKnown v is → markAt v i ≤ max (cond (votesAt v j) (markAt v j) 0) (highestKnown v is)
+      later : markAt v i ≤ highestKnown v is → markAt v i ≤ max (voterMark v j) (highestKnown v is)
       later q = omega (arith, q)
 
   -- one of a list that votes and has this mark
@@ -49,15 +58,15 @@ module _ (v : Server) where
     where
       go : (b : Bool) → votesAt v j ≡ b
           → ((i : ℕ) × Has is (highestKnown v is) i) ⊎ ((highestKnown v is ≡ 0) × ((i : ℕ) → contains is i ≡ true → votesAt v i ≡ false))
-          → ((i : ℕ) × Has (j ∷ is) (max (cond (votesAt v j) (markAt v j) 0) (highestKnown v is)) i)
-          ⊎ ((max (cond (votesAt v j) (markAt v j) 0) (highestKnown v is) ≡ 0) × ((i : ℕ) → contains (j ∷ is) i ≡ true → votesAt v i ≡ false))
-      go true e (inr (z, n)) = inl (j, record { listed = first-in j is; votes = e; mark-is = rw e (omega (arith, z)) })
+          → ((i : ℕ) × Has (j ∷ is) (max (voterMark v j) (highestKnown v is)) i)
+          ⊎ ((max (voterMark v j) (highestKnown v is) ≡ 0) × ((i : ℕ) → contains (j ∷ is) i ≡ true → votesAt v i ≡ false))
+      go true e (inr (z, n)) = inl (j, record { listed = first-in j is; votes = e; mark-is = omega (arith, z, voter j e) })
       go true e (inl (i, g)) = ⊎-elim
-          (λ (q : markAt v j < markAt v i). inl (i, record { listed = later-in j i is (g .listed); votes = g .votes; mark-is = rw e (omega (arith, q, g .mark-is)) }))
-          (λ (q : markAt v i ≤ markAt v j). inl (j, record { listed = first-in j is; votes = e; mark-is = rw e (omega (arith, q, g .mark-is)) }))
+          (λ (q : markAt v j < markAt v i). inl (i, record { listed = later-in j i is (g .listed); votes = g .votes; mark-is = omega (arith, q, g .mark-is, voter j e) }))
+          (λ (q : markAt v i ≤ markAt v j). inl (j, record { listed = first-in j is; votes = e; mark-is = omega (arith, q, g .mark-is, voter j e) }))
           (lt-or-le (markAt v j) (markAt v i))
-      go false e (inl (i, g)) = inl (i, record { listed = later-in j i is (g .listed); votes = g .votes; mark-is = rw e (omega (arith, g .mark-is)) })
-      go false e (inr (z, n)) = inr (rw e (omega (arith, z)), λ i q. ⊎-elim (λ p. rw p e) (n i) (in-either j i is q))
+      go false e (inl (i, g)) = inl (i, record { listed = later-in j i is (g .listed); votes = g .votes; mark-is = omega (arith, g .mark-is, no-voter j e) })
+      go false e (inr (z, n)) = inr (omega (arith, z, no-voter j e), λ i q. ⊎-elim (λ p. rw p e) (n i) (in-either j i is q))
 
   -- the first that has a mark, where one has
   first-found : (is : List ℕ) (mark i : ℕ) → Has is mark i → Has is mark (firstAt v mark is)

@@ -12,15 +12,16 @@ use twin::replay::{BESIDE, FEATURES, GIVEN, PASSED, REPLIES, SEQUENCES, STEPS};
 use twin::tries::headers::USES;
 
 /// Calls without a message, and those whose message goes to the register.
-const LOCAL: [&str; 3] = ["issue", "stop", "reassign"];
+const LOCAL: [&str; 4] = ["issue", "stop", "reassign", "restore"];
 const TO_REGISTER: [&str; 2] = ["take", "open"];
 
 /// The calls that each row of the list of documents 01 and 02 can decline.
 const DECLINED: [(u64, &[&str]); ORDER.len()] = [
     (1, &CALLS),
     (2, &CALLS),
-    (3, CALLS.split_last().expect("reassign names no server").1),
-    (4, &["prepare", "copy", "trim", "send", "note", "read", "export"]),
+    // reassign and restore name no server.
+    (3, CALLS.split_at(CALLS.len() - 2).0),
+    (4, &["prepare", "copy", "trim", "send", "note", "read", "export", "restore"]),
     (5, &["take", "prepare", "copy", "trim", "open", "issue", "send", "note", "read", "export"]),
     // The driver of recoveries alone.
     (29, &[]),
@@ -42,8 +43,9 @@ const DECLINED: [(u64, &[&str]); ORDER.len()] = [
     (19, &["prepare", "copy", "trim", "send", "note", "read", "export"]),
     (20, &["copy", "trim", "send", "note", "read", "export"]),
     (1, &["export"]),
-    (21, &["take", "reassign"]),
+    (21, &["take", "reassign", "restore"]),
     (22, &["open"]),
+    (30, &["restore"]),
 ];
 
 #[test]

@@ -15,9 +15,9 @@ use crate::cluster::{Answer, Call, Cluster, Refusal, Reply, HELD, ORDER};
 use crate::tries::headers::{use_of_zero, USES};
 use crate::tries::recoveries::Recovery;
 
-pub const CALLS: [&str; 12] = [
+pub const CALLS: [&str; 13] = [
     "take", "prepare", "copy", "trim", "open", "issue", "send", "note", "read", "export", "stop",
-    "reassign",
+    "reassign", "restore",
 ];
 
 #[derive(Default)]

@@ -23,7 +23,7 @@ impl Trace {
     /// Of a recovery that the driver does not decline itself.
     pub fn of(before: &Cluster, recovery: &Recovery) -> Trace {
         let (mut cluster, mut steps) = (before.clone(), Vec::new());
-        let end = recovery.by_hand(|mut call| {
+        let end = recovery.by_hand(&before.records.register, |mut call| {
             let before = cluster.clone();
             let reply = cluster.apply(&mut call);
             steps.push(Step { before, call, reply });

@@ -187,6 +187,13 @@ impl Recorder {
         put(&mut self.backup, 0, &kept);
     }
 
+    /// A restore with what the program holds of a backup, at a medium's length.
+    pub fn restore_held(&mut self, replica: u64) -> Reply {
+        let length = medium_bytes(self.cluster.shape.places as usize);
+        let backup = self.backup[..length].to_vec();
+        self.call(&Call::Restore { replica, backup })
+    }
+
     /// The bytes of the replica's medium, also where they lie behind what is lent.
     fn kept(&self, replica: u64) -> Vec<u8> {
         let places = self.cluster.shape.places.min(MOST_BACKUP_PLACES);

@@ -59,7 +59,7 @@ fn particular(recorder: &mut Recorder, random: &mut Random, scene: &Scene) {
 }
 
 /// The call where it is not declined, under every fate.
-fn under_every_fate(recorder: &mut Recorder, scene: &Scene) {
+pub fn under_every_fate(recorder: &mut Recorder, scene: &Scene) {
     for fate in fates_of(scene.kind) {
         let mut scene = scene.clone();
         scene.set_message(Message { fate, given: [0x5A; PLACE_BYTES] });

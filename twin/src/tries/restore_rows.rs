@@ -3,7 +3,7 @@
 //! | step | what it is |
 //! |---|---|
 //! | `cluster 3 4` | a fresh cluster with R and N, K = N |
-//! | `take 1 0 → ok 3` | a call of document 01's script, with its fate (`c 1 new` is a cut); so also `trim`, `note` and `stop` |
+//! | `take 1 0 → ok 3` | a call of document 01's script, with its fate (`c 1 new` is a cut); so also `trim`, `note`, `read` and `stop` |
 //! | `keep 1` | the bytes of replica 1's medium, for the restores that follow |
 //! | `restore 1 → ok 2` | with the bytes kept last |
 //! | `drive 2 [0,2,1] [] → ok 1, 7` | a recovery (see `recovery_rows`) |
@@ -127,16 +127,7 @@ pub fn play(stage: &mut impl Stage, steps: &str) {
 
 fn play_step(stage: &mut impl Stage, kept: &mut Vec<u8>, step: &str) -> Option<()> {
     if let Some((call, outcome)) = step.split_once('→') {
-        let (words, outcome) = (call.trim(), outcome.trim());
-        let met = match words.split_once(' ')? {
-            ("drive", _) => recovery_rows::outcome(stage.recover(&recovery_rows::parse(step)?.0)),
-            ("restore", replica) => {
-                let (replica, backup) = (numeral(replica)?, kept.clone());
-                reply_text(stage.call(&Call::Restore { replica, backup }))
-            }
-            _ => reply_text(stage.call(&call_of(words)?)),
-        };
-        assert_eq!(met, outcome, "{step}");
+        assert_eq!(reply_to(stage, kept, call.trim(), step)?, outcome.trim(), "{step}");
         return Some(());
     }
     let fields: Vec<&str> = step.split(' ').collect();
@@ -150,31 +141,47 @@ fn play_step(stage: &mut impl Stage, kept: &mut Vec<u8>, step: &str) -> Option<(
             *kept = stage.cluster().medium(replica as usize).to_vec();
         }
         ["kept", first, second] => assert_slots(kept, [first, second], step)?,
-        ["slots", replica, first, second] => {
-            let replica = numeral(replica)? as usize;
-            assert_slots(stage.cluster().medium(replica), [first, second], step)?;
+        _ => look(stage.cluster(), &fields, step)?,
+    }
+    Some(())
+}
+
+/// What a call, a restore or a recovery comes to.
+fn reply_to(stage: &mut impl Stage, kept: &[u8], words: &str, step: &str) -> Option<String> {
+    Some(match words.split_once(' ')? {
+        ("drive", _) => recovery_rows::outcome(stage.recover(&recovery_rows::parse(step)?.0)),
+        ("restore", replica) => {
+            let (replica, backup) = (numeral(replica)?, kept.to_vec());
+            reply_text(stage.call(&Call::Restore { replica, backup }))
         }
-        ["entry", replica, session, closing] => {
+        _ => reply_text(stage.call(&call_of(words)?)),
+    })
+}
+
+/// What the cluster is at this step.
+fn look(cluster: &Cluster, fields: &[&str], step: &str) -> Option<()> {
+    let replica = numeral(fields.get(1)?)? as usize;
+    match (fields[0], &fields[2..]) {
+        ("slots", &[first, second]) => {
+            assert_slots(cluster.medium(replica), [first, second], step)?;
+        }
+        ("entry", &[session, closing]) => {
             let closing = match closing {
                 "unresolved" => Closing::Unresolved,
                 "restored" => Closing::Restored,
                 mark => Closing::Mark(numeral(mark)?),
             };
             let entry = Entry { session: numeral(session)?, closing };
-            let replica = numeral(replica)? as usize;
-            assert_eq!(stage.cluster().records.register.entries[replica], entry, "{step}");
+            assert_eq!(cluster.records.register.entries[replica], entry, "{step}");
         }
-        ["place", replica, number, ref data @ ..] => {
+        ("place", &[number]) => {
+            assert!(place(cluster.medium(replica), numeral(number)?) == WIPED, "{step}");
+        }
+        ("place", &[number, data]) => {
             let number = numeral(number)?;
-            let bytes = place(stage.cluster().medium(numeral(replica)? as usize), number);
-            match data {
-                [] => assert!(bytes == WIPED, "{step}"),
-                [data] => {
-                    let record = Record::decode(number, &bytes).expect("a valid place");
-                    assert_eq!(hex::encode(record.data), *data, "{step}");
-                }
-                _ => return None,
-            }
+            let bytes = place(cluster.medium(replica), number);
+            let record = Record::decode(number, &bytes).expect("a valid place");
+            assert_eq!(hex::encode(record.data), data, "{step}");
         }
         _ => return None,
     }

@@ -1,9 +1,7 @@
 //! Media from a backup (document 02, No. 10): worked examples step by step, what restore changes, and what the
 //! calls after it make of an entry that is restored.
 
-use twin::cluster::{
-    Answer, Call, Closing, Cluster, Entry, Message, Phase, Reply, Shape, Standing,
-};
+use twin::cluster::{Answer, Closing, Cluster, Entry, Message, Phase, Reply, Shape, Standing};
 use twin::fate::{Fate, Left};
 use twin::medium::{
     current, mark, place, place_at, put, Slot, PLACE_BYTES, SLOTS_BYTES, SLOT_BYTES, WIPED,

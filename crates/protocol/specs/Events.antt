@@ -12,7 +12,7 @@
 --   issue        issue s x e
 --   send i       append s i x, if the place became valid; hear s i, if answered; acknowledge s m in any case.
 --   stop         stop s
---   note i       note s i, if the slot became valid
+--   note i       note s i, if the slot that it writes is the current one then; else none
 --   restore i    restore i c, where c is what the bytes hold; no server, no fate
 --   read, export, reassign: none, whatever the fate. Declined and answered: none.
 --   Declined (18, 19, 20, 22) and not answered: forget s i (opening), acknowledge s m (send and copy while open), stop s (open).

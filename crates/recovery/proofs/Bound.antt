@@ -54,11 +54,11 @@ unfolding highestKnown
 highest-le h v [] below f = omega arith
 highest-le h v (i ∷ is) below f =
     let l = first-below (h .replicas) i is below in
-    omega (arith, highest-le h v is (l .1) f, voting (votesAt v i) (f i (l .0)))
+    omega (arith, highest-le h v is (l .1) f, at-most (votesAt v i) (f i (l .0)))
   where
-    voting : (b : Bool) → markAt v i ≤ h .places → cond b (markAt v i) 0 ≤ h .places
-    voting true q = q
-    voting false q = omega arith
+    at-most : (b : Bool) → markAt v i ≤ h .places → cond b (markAt v i) 0 ≤ h .places
+    at-most true q = q
+    at-most false q = omega arith
 
 pub steady-prepares : (h : Shape) (d : Recovery) (is : List ℕ) (t : Trail) → Steady h (t .state) → Steady h (played h t (prepares h d t is) .state)
 unfolding played prepares

@@ -103,7 +103,7 @@ module _ (Q : Server → Type 0) (i : ℕ) (K : Keeps Q i) where
 module _ (h : Shape) (d : Recovery) (P : Trail → Type 0) (These : ℕ → Type 0)
     (prepare : (i : ℕ) (t : Trail) → These i → P t → P (one h t (preparing d t i)))
     (copy : (a b : ℕ) (t : Trail) → These b → P t → P (one h t (copying d t a b))) where
-  along-prepares : (is : List ℕ) (t : Trail) → ((i : ℕ) → contains is i ≡ true → These i) → P t → P (played h t (prepares h d t is))
+  pub along-prepares : (is : List ℕ) (t : Trail) → ((i : ℕ) → contains is i ≡ true → These i) → P t → P (played h t (prepares h d t is))
   unfolding played prepares
   along-prepares [] t l q = q
   along-prepares (i ∷ is) t l q =
@@ -131,7 +131,7 @@ module _ (h : Shape) (d : Recovery) (P : Trail → Type 0) (These : ℕ → Type
       go true on = on
       go false on = q
 
-  along-all : (a m : ℕ) (bs : List ℕ) (t : Trail) → ((b : ℕ) → contains bs b ≡ true → These b) → P t → P (played h t (allCopies h d a m t bs))
+  pub along-all : (a m : ℕ) (bs : List ℕ) (t : Trail) → ((b : ℕ) → contains bs b ≡ true → These b) → P t → P (played h t (allCopies h d a m t bs))
   unfolding played allCopies
   along-all a m [] t l q = q
   along-all a m (b ∷ bs) t l q =

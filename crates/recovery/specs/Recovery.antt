@@ -96,9 +96,12 @@ prepares h d t (i ∷ is) = let p = preparing d t i in p ∷ prepares h d (one h
 -- "the highest mark known after the prepares", and "the first that then had it": v is the server's record then. Document 02, No. 10, of restored replicas: "The
 -- driver takes its highest mark from the others, copies from none such"; the others are those that vote. With none of them known the mark is 0, and there is
 -- nothing to copy.
+abbrev pub voterMark : Server → ℕ → ℕ
+voterMark v i = cond (votesAt v i) (markAt v i) 0
+
 unfoldable pub highestKnown : Server → List ℕ → ℕ
 highestKnown v [] = 0
-highestKnown v (i ∷ is) = max (cond (votesAt v i) (markAt v i) 0) (highestKnown v is)
+highestKnown v (i ∷ is) = max (voterMark v i) (highestKnown v is)
 
 unfoldable pub firstAt : Server → ℕ → List ℕ → ℕ
 firstAt v m [] = 0

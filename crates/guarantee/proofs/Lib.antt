@@ -28,9 +28,9 @@
 --   Remembering what no call changes in a history: the count and the moments before it
 --
 -- Beside the theorem: Readable, every list of calls that fit, with restores of bytes that stood, is one of its lists; Whole, what it comes to for two
--- sessions; Once, of sessions nothing is written over; Interval, a session issues K IDs at most; InFlight, what a server holds is what its session issued; Readers, whoever is declined by 15
--- has something left to read or to wait for; Running, the states that the running calls leave are those of the list. The crate guarantee_example works
--- four lists out.
+-- sessions; Once, of sessions nothing is written over; Interval, a session issues K IDs at most; InFlight, what a server holds is what its session issued;
+-- Readers, whoever is declined by 15 has something left to read or to wait for; Running, the states that the running calls leave are those of the list. The
+-- crate guarantee_example works five lists out.
 --
 -- Over lists with recoveries (specs/Recoveries.antt):
 --   Recoveries  the theorem: a list of items is a list of calls that are covered, so what is shown of lists of calls holds of lists of items

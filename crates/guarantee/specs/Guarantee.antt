@@ -44,8 +44,8 @@
 -- written over: one is opened once and issues an ID once (proofs/Once.antt `once`), and none more than K above its starting mark (proofs/Interval.antt
 -- `interval`). What an open server holds of an ID is what its session issued under it (proofs/InFlight.antt `in-flight`). A client that has read all that
 -- is issued is not declined by 15, and one that has read all that is acknowledged only for a record in flight (proofs/Readers.antt `readers`).
--- Running `apply` over a list from `fresh::start` leaves the states of `along` (proofs/Running.antt `runs`). The crate guarantee_example works four lists
--- out, one of them with a server that is stopped while its records have reached different replicas, one with three recoveries.
+-- Running `apply` over a list from `fresh::start` leaves the states of `along` (proofs/Running.antt `runs`). The crate guarantee_example works five lists
+-- out, one of them with a server that is stopped while its records have reached different replicas, one with three recoveries, one with a restore.
 --
 -- How to read it, if you do not know the notation:
 --   x : A                  x is of the type A; ℕ are the numbers from 0, Bool is true or false, Type 0 is what is to be shown

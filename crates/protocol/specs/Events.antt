@@ -12,7 +12,7 @@
 --   issue        issue s x e
 --   send i       append s i x, if the place became valid; hear s i, if answered; acknowledge s m in any case.
 --   stop         stop s
---   note i       note s i, if the slot became valid
+--   note i       note s i, if the slot that it writes is the current one then; else none
 --   restore i    restore i c, where c is what the bytes hold; no server, no fate
 --   read, export, reassign: none, whatever the fate. Declined and answered: none.
 --   Declined (18, 19, 20, 22) and not answered: forget s i (opening), acknowledge s m (send and copy while open), stop s (open).
@@ -82,7 +82,7 @@ pub record Can-learn (σ : State) (s i : ℕ) : Type 0 where
   pub promise : σ .promise i ≡ s
   -- the truncation came to its end
   pub whole : σ .handed-restored s i ≡ false → σ .handed-unresolved s i ≡ false → σ .mark i ≤ σ .handed-closing s i
-  pub low : σ .handed-restored s i ≡ true → σ .mark i ≤ σ .low i  -- "truncates to its low-water mark"
+  pub low : σ .handed-restored s i ≡ true → σ .mark i ≤ σ .low i  -- "to its low-water mark"
 
 -- ---- forget: "an opening server forgets the replica (not known, recorded mark 0)". The mark stays here; nothing reads it until the next learn.
 
@@ -191,7 +191,7 @@ pub record Can-acknowledge (σ : State) (s m : ℕ) : Type 0 where
 abbrev pub after-stop : State → ℕ → State
 after-stop σ s = with-servers σ (upd (σ .phase) s Idle) (σ .known) (σ .recorded)
 
--- ---- note: "writes the session's starting mark as low-water mark of member i"
+-- ---- note: "writes a slot with the promise kept, the starting mark as low-water and i's mark as local low-water". The local one is not read.
 
 abbrev pub after-note : State → ℕ → ℕ → State
 after-note σ s i = with-low σ (upd (σ .low) i (σ .start s))
@@ -213,7 +213,7 @@ after-restore σ i c =
     with-low written (upd (σ .low) i (c .low))
 
 -- What the guarantee rests on of the bytes: up to their low-water mark they are in the log of a session, of a number up to p, that started there or above.
--- "Bytes that the same replica held between two earlier calls" are so (proofs/Backups.antt `earlier`); that it is the same replica is not used.
+-- So are "bytes that the same replica held between two earlier calls" (proofs/Backups.antt `earlier`); that it is the same replica is not used.
 pub record Saved (opened : ℕ → Bool) (start : ℕ → ℕ) (log : ℕ → ℕ → Tx) (p : ℕ) (c : Content) : Type 0 where
   pub session : ℕ
   pub below : session ≤ p

@@ -32,7 +32,7 @@ voter σ s j = σ .known s j && not (σ .handed-restored s j)
 abbrev pub Decided : State → ℕ → ℕ → Type 0
 Decided σ s D = count (above? (voter σ s) (σ .recorded s) D) (σ .R) + count (unflagged? (voter σ s)) (σ .R) < σ .Q
 
--- "known replicas exactly at it (the clean ones)"; document 02, No. 10: a restored one too, "if it stands at the decided mark at open"
+-- "known replicas exactly at it (the clean ones)"; document 02, No. 10: a restored one too, if it "stands at the decided mark at open"
 abbrev pub clean : State → ℕ → ℕ → ℕ → Bool
 clean σ s D j = σ .known s j && eqb (σ .recorded s j) D
 

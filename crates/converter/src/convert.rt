@@ -15,7 +15,6 @@ use storage::sizes::PLACE;
 use storage::sizes::PLACES_LIMIT;
 use storage::sizes::SLOT;
 use storage::sizes::SLOTS;
-use storage::slot;
 
 // How many places an old medium of so many bytes has room for.
 fn places_of(size: usize) -> usize
@@ -49,10 +48,10 @@ fn has_slot(t: &Tables, m: &[u8]) -> bool
     requires { ⌜ slotsSize ≤ length (now m) ⌝ }
     ensures { λ r. ⌜ r ≡ hasSlot (now (m .entry)) ⌝ }
 {
-    if slot::valid(t, &m[0..SLOT]) {
+    if slots::valid(t, &m[0..SLOT]) {
         return true;
     }
-    slot::valid(t, &m[SLOT..SLOTS])
+    slots::valid(t, &m[SLOT..SLOTS])
 }
 
 // The records of the log, one behind the other; how many they are. What stands behind them is not written.

@@ -8,7 +8,6 @@ ghost use Rattle.storage.specs.Places.{sizeAs};
 ghost use Rattle.converter.specs.Old.{oldLayout, oldPlaceSize, oldFields, oldValid};
 ghost use Rattle.converter.specs.Convert.{renewed};
 use crc32::Tables;
-use storage::place;
 use storage::place::Fields;
 use storage::sizes::CHECK;
 use storage::sizes::CLIENT_AT;
@@ -58,11 +57,11 @@ fn decode(s: &[u8]) -> Fields
     let id = octets::get_be(&s[ID_AT..CLIENT_AT]);
     Fields {
         id: id,
-        client: place::number(s, CLIENT_AT),
-        generation: place::number(s, GENERATION_AT),
-        partition: place::number(s, PARTITION_AT),
-        sequence: place::number(s, SEQUENCE_AT) as u64,
-        header: place::number(s, HEADER_AT),
+        client: place_reader::number(s, CLIENT_AT),
+        generation: place_reader::number(s, GENERATION_AT),
+        partition: place_reader::number(s, PARTITION_AT),
+        sequence: place_reader::number(s, SEQUENCE_AT) as u64,
+        header: place_reader::number(s, HEADER_AT),
     }
 }
 
@@ -74,6 +73,6 @@ pub fn renew(t: &Tables, out: &mut [u8], s: &[u8])
     requires { ⌜ sizeAs oldLayout (now s) ≤ dataLimit ⌝ }
     ensures { λ _. ⌜ now (out .exit) ≡ renewed (now (s .entry)) ⌝ }
 {
-    let end = DATA_AT + place::number(s, LENGTH_AT) as usize;
-    place::encode(t, out, decode(s), &s[DATA_AT..end]);
+    let end = DATA_AT + place_reader::number(s, LENGTH_AT) as usize;
+    place_writer::encode(t, out, decode(s), &s[DATA_AT..end]);
 }

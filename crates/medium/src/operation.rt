@@ -17,11 +17,9 @@ use fate::Fate;
 use storage::operation::Operation;
 use storage::operation::Read;
 use storage::operation::Target;
-use storage::place;
 use storage::sizes::CLIENT_AT;
 use storage::sizes::ID_AT;
 use storage::sizes::SLOT;
-use storage::slot;
 use storage::slot::Current;
 use storage::slot::Slot;
 
@@ -31,8 +29,8 @@ pub fn read_medium(t: &Tables, m: &[u8], places: usize) -> Read
     requires { ⌜ length (now m) ≡ mediumSize places ⌝ }
     ensures { λ r. ⌜ (r .places ≡ places) × AsRead r (now (m .entry)) ⌝ }
 {
-    let c = slot::choose(t, m);
-    let x = slot::held(c, m);
+    let c = slots::choose(t, m);
+    let x = slots::held(c, m);
     let n = scan::mark(t, m, places);
     Read {
         places: places,
@@ -50,8 +48,8 @@ fn set_slot(t: &Tables, m: &mut [u8], c: Current, x: Slot, given: &[u8], f: Fate
     ensures { λ _. ⌜ now (m .exit) ≡ leave (effectOf f k) (now (given .entry)) (slotWrite c x) (now (m .entry)) ⌝ }
 {
     let mut b = [0u8; SLOT];
-    slot::encode(t, &mut b, x);
-    let at = slot::other(c);
+    slots::encode(t, &mut b, x);
+    let at = slots::other(c);
     fate::store(m, at, &b, given, f, k);
 }
 
@@ -203,7 +201,7 @@ pub fn given_pass(t: &Tables, g: &[u8], places: u64) -> bool
     requires { ⌜ length (now g) ≡ placeSize ⌝ }
     ensures { λ r. ⌜ r ≡ passes places (now (g .entry)) ⌝ }
 {
-    if slot::valid(t, &g[0..SLOT]) {
+    if slots::valid(t, &g[0..SLOT]) {
         return true;
     }
     let n = octets::get_be(&g[ID_AT..CLIENT_AT]);
@@ -213,5 +211,5 @@ pub fn given_pass(t: &Tables, g: &[u8], places: u64) -> bool
     if places < n {
         return false;
     }
-    place::valid(t, g, n)
+    place_reader::valid(t, g, n)
 }

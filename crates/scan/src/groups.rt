@@ -12,7 +12,6 @@ ghost use Rattle.scan.specs.Rows.{AllFit, Checks, validRows};
 use crc32::Tables;
 use lanes::LANES;
 use lanes::Registers;
-use storage::place;
 use storage::sizes::CHECK;
 use storage::sizes::CLIENT_AT;
 use storage::sizes::PLACE;
@@ -36,7 +35,7 @@ pub fn singly(t: &Tables, s: &[u8], n: u64, count: usize) -> usize
     let mut a = 0;
     while j < count {
         let e = a + PLACE;
-        if !place::valid(t, &s[a..e], n + j as u64 + 1) {
+        if !place_reader::valid(t, &s[a..e], n + j as u64 + 1) {
             return j;
         }
         j += 1;
@@ -55,7 +54,7 @@ fn all_fit(s: &[u8], n: u64) -> bool
     let mut a = 0;
     while j < LANES {
         let e = a + PLACE;
-        if !place::fields_fit(&s[a..e], n + j as u64 + 1) {
+        if !place_reader::fields_fit(&s[a..e], n + j as u64 + 1) {
             return false;
         }
         j += 1;

@@ -7,7 +7,6 @@ ghost use Rattle.storage.specs.Sizes.{placeSize, dataLimit};
 ghost use Rattle.storage.specs.Places.{sizeOf, fieldsIn, dataOf};
 ghost use Rattle.segment.specs.Records.{recordBytes, recordSize};
 use crc32::Tables;
-use storage::place;
 use storage::sizes::CHECK;
 use storage::sizes::DATA_AT;
 
@@ -25,7 +24,7 @@ pub fn size_of(p: &[u8]) -> usize
     requires { ⌜ sizeOf (now p) ≤ dataLimit ⌝ }
     ensures { λ r. ⌜ r ≡ recordSize (now (p .entry)) ⌝ }
 {
-    LEAST + place::data_length(p) as usize
+    LEAST + place_reader::data_length(p) as usize
 }
 
 // The record of a place. Its numbers stand before the data check as they stand in the place.
@@ -36,7 +35,7 @@ pub fn write_record(t: &Tables, out: &mut [u8], p: &[u8])
     requires { ⌜ length (now out) ≡ recordSize (now p) ⌝ }
     ensures { λ _. ⌜ now (out .exit) ≡ recordBytes (fieldsIn (now (p .entry))) (dataOf (now (p .entry))) ⌝ }
 {
-    let end = DATA_AT + place::data_length(p) as usize;
+    let end = DATA_AT + place_reader::data_length(p) as usize;
     let sum = crc32::crc(t, &p[DATA_AT..end]);
     octets::put(out, 0, &p[0..DATA_AT]);
     octets::put_be(out, CHECK_AT, CHECK, sum as u64);

@@ -11,8 +11,8 @@ use cluster::HELD;
 use cluster::Held;
 use cluster::WINDOW;
 use crc32::Tables;
+use place_writer::encode;
 use storage::place::Fields;
-use storage::place::encode;
 use storage::sizes::PLACE;
 use storage::sizes::Place;
 

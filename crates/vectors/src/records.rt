@@ -8,13 +8,11 @@ ghost use Rattle.storage.specs.Places.{sizeOf};
 use crc32::Tables;
 use run_lines::hex;
 use run_lines::print;
-use storage::place;
 use storage::place::Fields;
 use storage::sizes::DATA_AT;
 use storage::sizes::DATA_LIMIT;
 use storage::sizes::PLACE;
 use storage::sizes::SLOT;
-use storage::slot;
 use storage::slot::Slot;
 use text::line;
 use text::number;
@@ -64,7 +62,7 @@ pub fn place(t: &Tables, line: &[u8]) -> bool
     if !hex::read(line::field(line, 2), &mut b) {
         return false;
     }
-    if !place::valid(t, &b, n) {
+    if !place_reader::valid(t, &b, n) {
         print::number(0);
         return true;
     }
@@ -77,7 +75,7 @@ fn tell(b: &[u8])
     requires { ⌜ length (now b) ≡ placeSize ⌝ }
     requires { ⌜ sizeOf (now b) ≤ dataLimit ⌝ }
 {
-    let f = place::decode(b);
+    let f = place_reader::decode(b);
     print::number(1);
     print::next(f.id);
     print::next(f.client as u64);
@@ -93,7 +91,7 @@ fn content(b: &[u8])
     requires { ⌜ length (now b) ≡ placeSize ⌝ }
     requires { ⌜ sizeOf (now b) ≤ dataLimit ⌝ }
 {
-    let n = place::data_length(b);
+    let n = place_reader::data_length(b);
     print::next(n as u64);
     print::text(b"\t");
     let e = DATA_AT + n as usize;
@@ -108,12 +106,12 @@ pub fn slot(t: &Tables, line: &[u8]) -> bool
     if !hex::read(line::field(line, 1), &mut b) {
         return false;
     }
-    if !slot::valid(t, &b) {
+    if !slots::valid(t, &b) {
         print::number(0);
         return true;
     }
     print::number(1);
-    held(slot::read(&b));
+    held(slots::read(&b));
     true
 }
 
@@ -183,7 +181,7 @@ fn record_of(t: &Tables, f: Fields, s: &[u8], d: &mut [u8]) -> bool
         return false;
     }
     let mut out = [0u8; PLACE];
-    place::encode(t, &mut out, f, d);
+    place_writer::encode(t, &mut out, f, d);
     print::digits(&out);
     true
 }
@@ -202,7 +200,7 @@ pub fn slot_of(t: &Tables, line: &[u8]) -> bool
         return false;
     };
     let mut out = [0u8; SLOT];
-    slot::encode(
+    slots::encode(
         t,
         &mut out,
         Slot {

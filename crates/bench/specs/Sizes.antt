@@ -2,7 +2,7 @@
 -- Assumes nothing.
 use Prim.Native.Nat.{ℕ, _*_}
 use Rattle.storage.specs.Sizes.{mediumSize}
-use Rattle.converter.specs.Old.{oldMediumSize}
+use Rattle.old_places.specs.Old.{oldMediumSize}
 
 abbrev pub mediaLength : ℕ
 mediaLength = 7 * mediumSize 1000

@@ -27,10 +27,10 @@ use Rattle.storage.proofs.LogWrites.{wiped-invalid}
 use Rattle.storage.proofs.SlotWrites.{same-slots}
 use Rattle.storage.proofs.Truncating.{mark-is}
 use Rattle.storage.proofs.Filled.{AllValid, valid-long, joined, zero-pieces, all-wiped, Filled, filled-is}
-use Rattle.converter.specs.Old.{oldPlaceSize, oldMediumSize, oldFields, oldData, oldValid, oldPlaceAt, oldPlacesFrom, oldLog, oldMark}
-use Rattle.converter.specs.Convert.{renewed, allRenewed, converted, ok, verdict, newMedium}
+use Rattle.old_places.specs.Old.{oldPlaceSize, oldMediumSize, oldFields, oldData, oldValid, oldPlaceAt, oldPlacesFrom, oldLog, oldMark, renewed}
+use Rattle.converter.specs.Convert.{allRenewed, converted, ok, verdict, newMedium}
 use Rattle.converter.proofs.Converting.{mark-le, length-log}
-use Rattle.converter.proofs.OldRecords.{Renewed, renews}
+use Rattle.old_places.proofs.OldRecords.{Renewed, renews}
 use Rattle.converter.proofs.Verdicts.{Convertible, declines}
 
 -- ================ the statement

@@ -16,8 +16,8 @@ use Rattle.storage.specs.Log.{runBy}
 use Rattle.storage.proofs.Layouts.{record-length}
 use Rattle.storage.proofs.Scan.{runBy-le}
 use Rattle.storage.proofs.PlaceLayouts.{valid-tests}
-use Rattle.converter.specs.Old.{oldLayout, oldPlaceSize, oldMediumSize, oldFields, oldData, oldValid, oldPlaceAt, oldPlacesFrom, oldLog, oldMark}
-use Rattle.converter.specs.Convert.{renewed, allRenewed, converted}
+use Rattle.old_places.specs.Old.{oldLayout, oldPlaceSize, oldMediumSize, oldFields, oldData, oldValid, oldPlaceAt, oldPlacesFrom, oldLog, oldMark, renewed}
+use Rattle.converter.specs.Convert.{allRenewed, converted}
 
 -- what is left of a log of N places behind place n
 unfoldable pub left : ℕ → ℕ → List ℕ → List (List ℕ)

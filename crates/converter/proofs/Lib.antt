@@ -1,4 +1,3 @@
 pub mod Converting
 pub mod Verdicts
-pub mod OldRecords
 pub mod Conversion

@@ -14,7 +14,7 @@ use borrow.Author.Tests.{eq-eqb, le-leb, eqb-true, leb-true}
 use Rattle.storage.specs.Sizes.{placesLimit, mediumSize}
 use Rattle.storage.specs.Slots.{currentOf, firstOf, secondOf, validSlot, newer, slotOf, HasSlot}
 use Rattle.storage.specs.declared.slot.Current.the-variants.{First, Second, Neither}
-use Rattle.converter.specs.Old.{oldMediumSize}
+use Rattle.old_places.specs.Old.{oldMediumSize}
 use Rattle.converter.specs.Convert.{Reply, ok, no, placesOf, lengthsOf, sizesFit, hasSlot, verdict, converted, ifOk, newMedium}
 
 -- ================ the statement

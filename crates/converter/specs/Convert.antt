@@ -7,11 +7,10 @@ use Prim.Native.Nat.{ℕ, _-_, _*_, _/_}
 use lib.Dec.{eqb, leb}
 use lib.ListN.{length, take, replicate}
 use Rattle.storage.specs.Sizes.{slotsSize, placeSize, placesLimit, mediumSize}
-use Rattle.storage.specs.Places.{recordBytes}
 use Rattle.storage.specs.Slots.{validSlot, firstOf, secondOf}
 use Rattle.converter.specs.declared.Converted.{Converted}
 use Rattle.converter.specs.declared.Converted.the-variants.{Done, NotConvertible}
-use Rattle.converter.specs.Old.{oldPlaceSize, oldMediumSize, oldFields, oldData, oldLog, oldMark}
+use Rattle.old_places.specs.Old.{oldPlaceSize, oldMediumSize, oldLog, oldMark, renewed}
 
 -- ================ the replies
 
@@ -47,11 +46,7 @@ verdict old new = cond (sizesFit (length old) (length new) && hasSlot old) ok (n
 
 -- ================ what it writes
 
--- an old place's record in the new layout: the same fields and data, the sequence as a number
-unfoldable pub renewed : List ℕ → List ℕ
-renewed s = recordBytes (oldFields s) (oldData s)
-
--- so with places one behind the other
+-- the records of old places in the new layout, one behind the other
 unfoldable pub allRenewed : List (List ℕ) → List ℕ
 allRenewed [] = []
 allRenewed (s ∷ ss) = renewed s ++ allRenewed ss

@@ -1,2 +1,1 @@
-pub mod Old
 pub mod Convert

@@ -5,12 +5,11 @@ ghost use lib.ListN.{length};
 ghost use Rattle.octets.specs.Octets.{writeAt};
 ghost use Rattle.crc32.specs.Tables.{tablesOf};
 ghost use Rattle.storage.specs.Sizes.{slotsSize, mediumSize};
-ghost use Rattle.converter.specs.Old.{oldMediumSize, oldLog, oldMark};
+ghost use Rattle.old_places.specs.Old.{oldMediumSize, oldLog, oldMark};
 ghost use Rattle.converter.specs.Convert.{placesOf, lengthsOf, hasSlot, allRenewed, converted, verdict, newMedium, replyOf};
 use crate::Converted;
-use crate::old;
-use crate::old::OLD_PLACE;
 use crc32::Tables;
+use old_places::OLD_PLACE;
 use storage::sizes::PLACE;
 use storage::sizes::PLACES_LIMIT;
 use storage::sizes::SLOT;
@@ -67,10 +66,10 @@ fn renew_log(t: &Tables, m: &[u8], out: &mut [u8], places: usize) -> usize
     while n < places {
         let e = a + OLD_PLACE;
         let f = b + PLACE;
-        if !old::valid(t, &m[a..e], n as u64 + 1) {
+        if !old_places::valid(t, &m[a..e], n as u64 + 1) {
             return n;
         }
-        old::renew(t, &mut out[b..f], &m[a..e]);
+        old_places::renew(t, &mut out[b..f], &m[a..e]);
         n += 1;
         a = e;
         b = f;

@@ -1,6 +1,5 @@
 // The converter: a medium with places of 64 bytes, as it was before request No. 7, turned into one with places of 72 in a second slice.
 pub mod convert;
-pub mod old;
 
 // The number by which the converter declines.
 pub const NOT_CONVERTIBLE: u64 = 27;

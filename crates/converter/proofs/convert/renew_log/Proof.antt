@@ -9,8 +9,8 @@ use borrow.Author.Tests.{not-true, not-false}
 use Rattle.octets.specs.Octets.{writeAt}
 use Rattle.octets.proofs.Laws.{length-between}
 use Rattle.storage.specs.Sizes.{slotsSize, placeSize}
-use Rattle.converter.specs.Old.{oldPlaceSize, oldValid, oldPlaceAt, oldLog, oldMark}
-use Rattle.converter.specs.Convert.{renewed, allRenewed}
+use Rattle.old_places.specs.Old.{oldPlaceSize, oldValid, oldPlaceAt, oldLog, oldMark, renewed}
+use Rattle.converter.specs.Convert.{allRenewed}
 use Rattle.converter.proofs.Converting.{left, left-all, mark-all, left-end, left-next, left-stop, length-old, place-here, valid-short, length-renewed, renewed-next, renewed-end}
 use borrow.Author.Needs.{needs}
 use Rattle.converter.proofs.convert.renew_log.Statement.{statement}

@@ -21,8 +21,7 @@ use Rattle.storage.specs.Sizes.{dataLimit}
 use Rattle.storage.specs.Places.{numbersAs, recordBytes, fieldsIn, dataOf, validPlace, Fitting}
 use Rattle.storage.proofs.PlaceLayouts as place
 use Rattle.storage.proofs.Records as records
-use Rattle.converter.specs.Old.{oldLayout, oldPlaceSize, oldFields, oldData, oldValid}
-use Rattle.converter.specs.Convert.{renewed}
+use Rattle.old_places.specs.Old.{oldLayout, oldPlaceSize, oldFields, oldData, oldValid, renewed}
 
 -- ================ the statements
 

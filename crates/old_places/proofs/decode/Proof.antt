@@ -1,8 +1,8 @@
 -- `old::decode`: the ID and five numbers, each read at its offset, are the definition's fields (`cc`).
-use Rattle.converter.specs.Old.{oldFields}
+use Rattle.old_places.specs.Old.{oldFields}
 use borrow.Author.Needs.{needs}
-use Rattle.converter.proofs.old.decode.Statement.{statement}
-use Rattle.converter.proofs.old.decode.Tie as tie
+use Rattle.old_places.proofs.decode.Statement.{statement}
+use Rattle.old_places.proofs.decode.Tie as tie
 
 sub-get-be : tie.Need-sub-get-be
 sub-get-be c = search needs

@@ -6,11 +6,10 @@ use Rattle.octets.specs.Octets.{part}
 use Rattle.octets.proofs.Laws.{between-part}
 use Rattle.storage.specs.Layout.{dataOffset}
 use Rattle.storage.specs.Places.{sizeAs, recordBytes}
-use Rattle.converter.specs.Old.{oldLayout, oldData}
-use Rattle.converter.specs.Convert.{renewed}
+use Rattle.old_places.specs.Old.{oldLayout, oldData, renewed}
 use borrow.Author.Needs.{needs}
-use Rattle.converter.proofs.old.renew.Statement.{statement}
-use Rattle.converter.proofs.old.renew.Tie as tie
+use Rattle.old_places.proofs.renew.Statement.{statement}
+use Rattle.old_places.proofs.renew.Tie as tie
 
 number-requires : tie.Need-number-requires
 number-requires c κs = search needs

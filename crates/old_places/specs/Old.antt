@@ -10,7 +10,7 @@ use Rattle.octets.specs.Octets.{part}
 use Rattle.storage.specs.declared.place.Fields.{Fields}
 use Rattle.storage.specs.Layout.{Layout}
 use Rattle.storage.specs.Sizes.{dataLimit, slotsSize}
-use Rattle.storage.specs.Places.{fieldsAs, dataAs, validAs}
+use Rattle.storage.specs.Places.{fieldsAs, dataAs, validAs, recordBytes}
 use Rattle.storage.specs.Log.{runBy}
 
 -- "ID (8), client, generation, partition, sequence (4 each), header (4), data length 0 to 28 (4), data (28, zeros after the length),
@@ -36,6 +36,10 @@ oldData s = dataAs oldLayout s
 -- "A place is valid if its ID is its number, its length and zeros fit and its check agrees."
 unfoldable pub oldValid : ℕ → List ℕ → Bool
 oldValid n s = validAs oldLayout n s
+
+-- an old place's record in the new layout: the same fields and data, the sequence as a number
+unfoldable pub renewed : List ℕ → List ℕ
+renewed s = recordBytes (oldFields s) (oldData s)
 
 -- ---- the log
 

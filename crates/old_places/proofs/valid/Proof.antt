@@ -7,11 +7,11 @@ use Rattle.octets.specs.Octets.{allZero}
 use Rattle.storage.specs.Layout.{numberIn}
 use Rattle.storage.specs.Sizes.{dataLimit}
 use Rattle.storage.specs.Places.{sizeAs}
-use Rattle.converter.specs.Old.{oldLayout, oldValid}
+use Rattle.old_places.specs.Old.{oldLayout, oldValid}
 use Rattle.storage.proofs.PlaceLayouts.{bad-id, bad-size, bad-tail, by-check, tail-is}
 use borrow.Author.Needs.{needs}
-use Rattle.converter.proofs.old.valid.Statement.{statement}
-use Rattle.converter.proofs.old.valid.Tie as tie
+use Rattle.old_places.proofs.valid.Statement.{statement}
+use Rattle.old_places.proofs.valid.Tie as tie
 
 sub-get-be : tie.Need-sub-get-be
 sub-get-be c = search needs

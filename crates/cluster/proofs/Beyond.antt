@@ -8,6 +8,7 @@ use Prim.Native.Nat.{ℕ, zero, suc, _≤_}
 use native.Mathlib.Omega.{arith}
 use lib.ListN.{getD}
 use lib.Seq.{getD-set-other}
+use borrow.Author.Tests.{leb-false}
 use Rattle.base.specs.Below.{upTo}
 use Rattle.cluster.specs.declared.Shape.{Shape}
 use Rattle.cluster.specs.declared.Entry.{Entry}
@@ -15,9 +16,10 @@ use Rattle.cluster.specs.declared.Register.{Register}
 use Rattle.cluster.specs.declared.Call.{Call}
 use Rattle.cluster.specs.declared.Call.the-variants as call
 use Rattle.cluster.specs.State.{State, freshEntry, serverAt, entryAt}
-use Rattle.cluster.specs.Refusals.{Input, voteMark, cleanAt, sessionAtTop, sessionDiffers, rowsOf, Verdict, pass, declined, firstOf}
-use Rattle.cluster.specs.Effects.{arrives, raisedSession, entryAfter, openedRegister, prepareEffect, trimEffect, noteEffect, readEffect, exportEffect, appendEffect, takeEffect, openEffect, issueEffect, stopEffect, reassignEffect}
+use Rattle.cluster.specs.Refusals.{Input, voteMark, cleanAt, sessionAtTop, sessionDiffers, checksOf, listOf, rowsOf, Verdict, pass, declined, firstOf}
+use Rattle.cluster.specs.Effects.{arrives, raisedSession, entryAfter, openedRegister, prepareEffect, trimEffect, noteEffect, readEffect, exportEffect, appendEffect, takeEffect, openEffect, issueEffect, stopEffect, reassignEffect, restoredEntry, restoreEffect}
 use Rattle.cluster.specs.Step.{effect, unless, step}
+use Rattle.cluster.proofs.Rows.{conditionOf, passed}
 
 -- ---- the statement
 
@@ -44,31 +46,35 @@ module _ (h : Shape) (x : State) (p : Input) (i : ℕ) (l : h .replicas ≤ i) w
   abbrev g : Register
   g = x .records .register
 
-  after : (c : Call) → entryAt (effect h x p c .state .records .register .entries) i ≡ entryAt (g .entries) i
-  unfolding prepareEffect trimEffect noteEffect readEffect exportEffect appendEffect takeEffect openEffect openedRegister issueEffect stopEffect reassignEffect
-  after (call.Take s f) = either-has (arrives f && not (sessionAtTop (g .session))) (raisedSession g) g i _ refl refl
-  after (call.Prepare s j f) = refl
-  after (call.Copy s a b f) = refl
-  after (call.Trim s j f) = refl
-  after (call.Open s f) =
+  -- a restore that is not declined names a replica below R
+  after : (c : Call) → ((n : ℕ) → conditionOf n (listOf (checksOf h x p c)) ≡ false)
+      → entryAt (effect h x p c .state .records .register .entries) i ≡ entryAt (g .entries) i
+  unfolding prepareEffect trimEffect noteEffect readEffect exportEffect appendEffect takeEffect openEffect openedRegister issueEffect stopEffect reassignEffect restoreEffect
+  after (call.Take s f) none = either-has (arrives f && not (sessionAtTop (g .session))) (raisedSession g) g i _ refl refl
+  after (call.Prepare s j f) none = refl
+  after (call.Copy s a b f) none = refl
+  after (call.Trim s j f) none = refl
+  after (call.Open s f) none =
       let v = serverAt (x .records) s in
       let d = voteMark (h .replicas) v in
       either-has (arrives f && not (sessionDiffers g v)) (openedRegister (h .replicas) g v d) g i _
       (above (λ j. entryAfter (entryAt (g .entries) j) (cleanAt v d j) (v .session) d) (g .entries) (h .replicas) i freshEntry l) refl
-  after (call.Issue s q) = refl
-  after (call.Send s j f) = refl
-  after (call.Note s j f) = refl
-  after (call.Read s j n f) = refl
-  after (call.Export s j f) = refl
-  after (call.Stop s) = refl
-  after call.Reassign = refl
-  after (call.Restore j) = ?
+  after (call.Issue s q) none = refl
+  after (call.Send s j f) none = refl
+  after (call.Note s j f) none = refl
+  after (call.Read s j n f) none = refl
+  after (call.Export s j f) none = refl
+  after (call.Stop s) none = refl
+  after call.Reassign none = refl
+  after (call.Restore j) none =
+      let below = leb-false (h .replicas) j (none 4) in
+      getD-set-other (g .entries) j i (restoredEntry (entryAt (g .entries) j)) freshEntry (λ e. omega (arith, below, e))
 
-  unless-kept : (d : Verdict) → entryAt (unless d x (effect h x p (p .call)) .state .records .register .entries) i ≡ entryAt (g .entries) i
+  unless-kept : (d : Verdict) → firstOf (rowsOf h x p) ≡ d → entryAt (unless d x (effect h x p (p .call)) .state .records .register .entries) i ≡ entryAt (g .entries) i
   unfolding unless
-  unless-kept pass = after (p .call)
-  unless-kept (declined n values) = refl
+  unless-kept pass e = after (p .call) (passed (rowsOf h x p) e)
+  unless-kept (declined n values) e = refl
 
 pub kept : Statement
 unfolding step
-kept h x p i l = unless-kept h x p i l (firstOf (rowsOf h x p))
+kept h x p i l = unless-kept h x p i l (firstOf (rowsOf h x p)) refl

@@ -1,6 +1,8 @@
 -- Condition 2 for the calls: an open or a trim that passes the refusals before number 8 is declined by 8 exactly if two ways of filling in
 -- the absent replicas' marks with 0 to N give different highest marks held by a majority; otherwise open answers, and trim truncates to,
--- the mark that every way gives. The statement comes first, then its proof; the theorems are `open-decides` and `trim-decides`.
+-- the mark that every way gives. Absent are the replicas that don't vote: those that the server doesn't know, and (document 02, No. 10: "counts as absent in the
+-- vote") those that were restored when it took its session, known or not and whatever they hold now. The statement comes first, then its proof; the theorems are
+-- `open-decides` and `trim-decides`.
 -- Assumes nothing.
 use mathlib.Core.Path.{_≡_, refl, sym, ap, _∙_}
 use mathlib.Core.Bool.{Bool, true, false, not, cond, _||_}

@@ -19,7 +19,7 @@ use Rattle.cluster.specs.declared.Call.the-variants as call
 use Rattle.cluster.specs.State.{State}
 use Rattle.cluster.specs.Replies.{Reply, ok, no, silent}
 use Rattle.cluster.specs.Refusals.{Input, Row, order, checksOf, rowsOf, pass, declined, firstOf, answered}
-use Rattle.cluster.specs.Effects.{Result, noBytes, prepareEffect, trimEffect, noteEffect, readEffect, exportEffect, appendEffect, takeEffect, openEffect, issueEffect, stopEffect, reassignEffect}
+use Rattle.cluster.specs.Effects.{Result, noBytes, prepareEffect, trimEffect, noteEffect, readEffect, exportEffect, appendEffect, takeEffect, openEffect, issueEffect, stopEffect, reassignEffect, restoreEffect}
 use Rattle.cluster.specs.Step.{effect, unless, step, written, ifOk, filesAfter}
 
 -- ---- the statement
@@ -156,7 +156,7 @@ module _ (h : Shape) (x : State) (p : Input) where
   received (call.Restore i) = tt
 
   replies : (c : Call) → (values : List ℕ) × (effect h x p c .reply ≡ cond (isAnswered c) (ok values) silent)
-  unfolding prepareEffect trimEffect noteEffect readEffect exportEffect appendEffect takeEffect openEffect issueEffect stopEffect reassignEffect
+  unfolding prepareEffect trimEffect noteEffect readEffect exportEffect appendEffect takeEffect openEffect issueEffect stopEffect reassignEffect restoreEffect
   replies (call.Take s f) = (_, refl)
   replies (call.Prepare s i f) = (_, refl)
   replies (call.Copy s a b f) = (_, refl)

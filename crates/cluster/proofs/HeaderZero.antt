@@ -128,6 +128,7 @@ by-issue h x content locks given stamp files backup values (call.Read s i n f) r
 by-issue h x content locks given stamp files backup values (call.Export s i f) r = absurd (unmentioned h x _ values refl r)
 by-issue h x content locks given stamp files backup values (call.Stop s) r = absurd (unmentioned h x _ values refl r)
 by-issue h x content locks given stamp files backup values call.Reassign r = absurd (unmentioned h x _ values refl r)
+by-issue h x content locks given stamp files backup values (call.Restore i) r = absurd (unmentioned h x _ values refl r)
 
 pub only-issue : OnlyIssue
 only-issue h x p values r = by-issue h x (p .content) (p .locks) (p .given) (p .stamp) (p .files) (p .backup) values (p .call) r

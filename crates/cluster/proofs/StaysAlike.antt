@@ -12,7 +12,7 @@ use native.Mathlib.Omega.{arith}
 use native.Mathlib.Decide.{ℕ-discrete}
 use lib.ListN.{length}
 use lib.Dec.{eqb, leb, ltb}
-use borrow.Author.Tests.{not-false, eqb-false, leb-false, ltb-true, ltb-false}
+use borrow.Author.Tests.{not-false, eqb-true, eqb-false, leb-false, ltb-true, ltb-false}
 use Rattle.base.proofs.Tests.{neither}
 use Rattle.octets.specs.Octets.{Bytes, writeAt}
 use Rattle.octets.proofs.Laws.{length-part, length-write}
@@ -34,14 +34,15 @@ use Rattle.cluster.specs.declared.Call.{Call}
 use Rattle.cluster.specs.declared.Call.the-variants as call
 use Rattle.cluster.specs.State.{State, heldSize, serverAt, entryAt, putServer, markAt, indexOf, recordOf}
 use Rattle.cluster.specs.Replies.{Reply}
-use Rattle.cluster.specs.Refusals.{Input, outside, answered, refusesPrepare, refusesAt, checksOf, listOf, rowsOf, Verdict, pass, declined, firstOf}
-use Rattle.cluster.specs.Effects.{Result, noBytes, afterMessage, mediumAfter, message, targetOf, prepareEffect, trimEffect, noteEffect, readEffect, exportEffect, appendEffect, takeEffect, openEffect, issueEffect, stopEffect, reassignEffect}
+use Rattle.cluster.specs.Refusals.{Input, outside, otherLength, answered, refusesPrepare, refusesAt, checksOf, listOf, rowsOf, Verdict, pass, declined, firstOf}
+use Rattle.cluster.specs.Effects.{Result, noBytes, afterMessage, mediumAfter, message, targetOf, prepareEffect, trimEffect, noteEffect, readEffect, exportEffect, appendEffect, takeEffect, openEffect, issueEffect, stopEffect, reassignEffect, restoredMedium, restoredRegister, restoreEffect}
 use Rattle.cluster.specs.Step.{effect, unless, step}
 use Rattle.cluster.proofs.Blocks.{room, block-length, block-same, block-other}
 use Rattle.cluster.proofs.Rows.{passed, conditionOf}
 use Rattle.cluster.proofs.Marks.{marks-fit}
 use Rattle.cluster.proofs.Window.{within}
 use Rattle.cluster.proofs.AsStored.{media-size, place-length}
+use Rattle.cluster.proofs.Restores.{restored-length}
 use Rattle.cluster.proofs.StoredHeaders.{AlikePlace, AlikeMedium, AlikeState, withHeader, header-blind, reheads, mark-alike, current-same, slot-same, no-slot, promise-above, promise-differs, mark-differs, place-alike}
 use Rattle.cluster.proofs.AlikeMedia.{Pair, AllWrites, after-alike, note-fits, trim-fits, prepare-fits, append-fits}
 
@@ -73,6 +74,7 @@ messages (call.Read s i n f) = true
 messages (call.Export s i f) = true
 messages (call.Stop s) = false
 messages call.Reassign = false
+messages (call.Restore i) = false
 
 -- what the types of a running call say of its arguments: "Given bytes are 64", 72 since No. 7, and the eight records that a server holds
 pub record Sized (x : State) (p : Input) : Type 0 where
@@ -127,29 +129,13 @@ module _ (h : Shape) (x : State) (media : List ℕ) (p : Input)
   sizes : outside h (length (x .media)) (length (x .tables)) ≡ false → length (x .media) ≡ R * mediumSize N
   sizes e = media-size h (length (x .media)) (length (x .tables)) e
 
-  module _ (s i : ℕ) (given : length (p .given) ≡ placeSize) (fits : length (x .media) ≡ R * mediumSize N) (named : i < R) where
-    abbrev v : Server
-    v = serverAt (x .records) s
-
-    abbrev m : List ℕ
-    m = mediumAt N i (x .media)
-
-    abbrev n : List ℕ
-    n = mediumAt N i media
-
-    pair : Pair N m n
-    pair =
-        record {
-          alike = S i;
-          one = length-part (i * mediumSize N) (mediumSize N) (x .media) (room (mediumSize N) R i (x .media) named fits);
-          other = length-part (i * mediumSize N) (mediumSize N) media (room (mediumSize N) R i media named (sym size ∙ fits));
-        }
-
-    put : (m′ n′ : List ℕ) → Pair N m′ n′ → (w : Server)
+  -- replica i's medium is replaced, alike in both, and the records are the same
+  module _ (i : ℕ) (fits : length (x .media) ≡ R * mediumSize N) (named : i < R) where
+    put : (m′ n′ : List ℕ) → Pair N m′ n′ → (r : Records)
         → SameButHeaders N
-        (record { records = putServer (x .records) s w; media = withMedium N i m′ (x .media); tables = x .tables })
-        (record { records = putServer (x .records) s w; media = withMedium N i n′ media; tables = x .tables })
-    put m′ n′ P w =
+        (record { records = r; media = withMedium N i m′ (x .media); tables = x .tables })
+        (record { records = r; media = withMedium N i n′ media; tables = x .tables })
+    put m′ n′ P r =
         record {
           records = refl;
           size =
@@ -172,6 +158,24 @@ module _ (h : Shape) (x : State) (media : List ℕ) (p : Input)
               block-other (mediumSize N) R i n′ media named (P .other) (sym size ∙ fits) j d,
             ) (S j)
 
+  module _ (s i : ℕ) (given : length (p .given) ≡ placeSize) (fits : length (x .media) ≡ R * mediumSize N) (named : i < R) where
+    abbrev v : Server
+    v = serverAt (x .records) s
+
+    abbrev m : List ℕ
+    m = mediumAt N i (x .media)
+
+    abbrev n : List ℕ
+    n = mediumAt N i media
+
+    pair : Pair N m n
+    pair =
+        record {
+          alike = S i;
+          one = length-part (i * mediumSize N) (mediumSize N) (x .media) (room (mediumSize N) R i (x .media) named fits);
+          other = length-part (i * mediumSize N) (mediumSize N) media (room (mediumSize N) R i media named (sym size ∙ fits));
+        }
+
     -- a replica declines in both or in neither
     after-both : (d e : Bool) → d ≡ e → (f : Fate) (ws us : List Write) → AllWrites N ws us
         → Pair N (mediumAfter d f (p .given) ws m) (mediumAfter e f (p .given) us n)
@@ -184,7 +188,7 @@ module _ (h : Shape) (x : State) (media : List ℕ) (p : Input)
     messaged : (f : Fate) (m′ n′ : List ℕ) → Pair N m′ n′ → AlikeResult N (message N x s i f m′) (message N y s i f n′)
     messaged f m′ n′ P =
         rw (mark-alike N m′ n′ (P .alike))
-        (record { reply = refl; bytes = inl refl; state = put m′ n′ P (afterMessage f v i (markOf N n′)) })
+        (record { reply = refl; bytes = inl refl; state = put i fits named m′ n′ P (putServer (x .records) s (afterMessage f v i (markOf N n′))) })
 
     mark-both : markOf N m ≡ markOf N n
     mark-both = mark-alike N m n (S i)
@@ -225,7 +229,7 @@ module _ (h : Shape) (x : State) (media : List ℕ) (p : Input)
     unfolding appendEffect
     appends bs cs f e fb fc l =
         let P = after-both _ _ refuses-both f _ _ (append-fits N (markAt v i) bs cs l e fb fc) in
-        rw (mark-alike N _ _ (P .alike)) (record { reply = refl; bytes = inl refl; state = put _ _ P _ })
+        rw (mark-alike N _ _ (P .alike)) (record { reply = refl; bytes = inl refl; state = put i fits named _ _ P _ })
 
     reads : (k : ℕ) (f : Fate) → 1 ≤ k → AlikeResult N (readEffect N x s i k f) (readEffect N y s i k f)
     unfolding readEffect
@@ -245,7 +249,7 @@ module _ (h : Shape) (x : State) (media : List ℕ) (p : Input)
   module _ (held : (s : ℕ) → s < 4 → length (serverAt (x .records) s .held) ≡ heldSize) where
     effects : (c : Call) → (messages c ≡ true → length (p .given) ≡ placeSize) → ((k : ℕ) → conditionOf k (listOf (checksOf h x p c)) ≡ false)
         → AlikeResult N (effect h x p c) (effect h y p c)
-    unfolding takeEffect openEffect issueEffect stopEffect reassignEffect
+    unfolding takeEffect openEffect issueEffect stopEffect reassignEffect restoreEffect otherLength
     effects (call.Take s f) given none = record { reply = refl; bytes = inl refl; state = still _ _ }
     effects (call.Prepare s i f) given none = prepares s i (given refl) (sizes (none 1)) (leb-false R i (none 4)) f
     effects (call.Copy s a b f) given none =
@@ -282,6 +286,13 @@ module _ (h : Shape) (x : State) (media : List ℕ) (p : Input)
     effects (call.Export s i f) given none = exports s i (given refl) (sizes (none 1)) (leb-false R i (none 4)) f
     effects (call.Stop s) given none = record { reply = refl; bytes = inl refl; state = still _ _ }
     effects call.Reassign given none = record { reply = refl; bytes = inl refl; state = still _ _ }
+    effects (call.Restore i) given none =
+        let g = restoredRegister (x .records .register) i in
+        let m = restoredMedium (g .session) (p .backup) in
+        let one = neither (outside h (length (x .media)) (length (x .tables))) (otherLength N (p .backup)) (none 1) in
+        let l : length m ≡ mediumSize N = restored-length N (g .session) (p .backup) (eqb-true _ _ (not-false _ (one .1))) in
+        let P : Pair N m m = record { alike = record { first = refl; second = refl; places = λ n a b. inl refl }; one = l; other = l } in
+        record { reply = refl; bytes = inl refl; state = put i (sizes (one .0)) (leb-false R i (none 4)) m m P _ }
 
     alike : AlikeState N x y
     alike = record { register = refl; servers = λ s. refl; size = size; media = S; tables = refl }

@@ -34,7 +34,7 @@ use Rattle.cluster.specs.declared.Shape.{Shape}
 use Rattle.cluster.specs.declared.Server.{Server}
 use Rattle.cluster.specs.declared.Call.{Call}
 use Rattle.cluster.specs.declared.Call.the-variants as call
-use Rattle.cluster.specs.State.{State, serverAt}
+use Rattle.cluster.specs.State.{State, serverAt, restoredAt}
 use Rattle.cluster.specs.Refusals.{Input, entriesFit, serverFits, markAbove, noSlot, promiseAbove, promiseDiffers, markDiffers, otherSizes, undecided, voteMark, tooFewClean, refusesAt, exportedPlaces, receivedAt, checksOf, listOf, rowsOf, firstOf}
 
 -- ---- the statements
@@ -290,6 +290,9 @@ module _ (h : Shape) (x y : State) (p : Input) (S : AlikeState (h .places) x y) 
   vote-same : (s : ℕ) → voteMark r (serverAt (x .records) s) ≡ voteMark r (serverAt (y .records) s)
   vote-same s = ap (voteMark r) (S .servers s)
 
+  restored-same : (s i : ℕ) → restoredAt (serverAt (x .records) s) i ≡ restoredAt (serverAt (y .records) s) i
+  restored-same s i = ap (λ (u : Server). restoredAt u i) (S .servers s)
+
   clean-same : (s : ℕ)
       → tooFewClean r (serverAt (x .records) s) (voteMark r (serverAt (x .records) s)) ≡ tooFewClean r (serverAt (y .records) s) (voteMark r (serverAt (y .records) s))
   clean-same s = ap (λ (u : Server). tooFewClean r u (voteMark r u)) (S .servers s)
@@ -321,7 +324,7 @@ module _ (h : Shape) (x y : State) (p : Input) (S : AlikeState (h .places) x y) 
       rw (S .size, S .tables, above-same, v .phase, v .session, no-slot _ _ _ _ m, promise-above _ _ _ _ m _)
   rows-same (call.Copy s a b f) =
       let v = server s in
-      rw (received-same s b f, refuses-same s a, S .size, S .tables, above-same, v .phase, v .known, v .dropped, v .marks)
+      rw (received-same s b f, refuses-same s a, restored-same s a, S .size, S .tables, above-same, v .phase, v .known, v .dropped, v .marks)
   rows-same (call.Trim s i f) =
       let v = server s in
       rw (received-same s i f, S .size, S .tables, above-same, v .phase, undecided-same s, vote-same s, v .known, v .dropped, v .marks)
@@ -343,6 +346,7 @@ module _ (h : Shape) (x y : State) (p : Input) (S : AlikeState (h .places) x y) 
       (rw (no-slot _ _ _ _ m, promise-differs _ _ _ _ m _, mark-differs _ _ _ _ m _))
   rows-same (call.Stop s) = rw (S .size, S .tables, above-same)
   rows-same call.Reassign = rw (S .size, S .tables, above-same, S .register)
+  rows-same (call.Restore i) = rw (S .size, S .tables, above-same, S .register)
 
 pub header-blind : HeaderBlind
 header-blind h x y p S = ap firstOf (rows-same h x y p S (p .call))

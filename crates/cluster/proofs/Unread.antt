@@ -4,7 +4,7 @@
 use mathlib.Core.Path.{_≡_, refl, sym, ap, ap₂, _∙_}
 use mathlib.Core.Bool.{Bool, true, false, not, cond, _&&_, _||_}
 use mathlib.Core.List.{List, [], _∷_, _++_}
-use Prim.Native.Nat.{ℕ, _<_}
+use Prim.Native.Nat.{ℕ, _+_, _<_}
 use lib.ListN.{take}
 use lib.Seq.{getD-take}
 use lib.Dec.{leb, eqb}
@@ -23,10 +23,10 @@ use Rattle.cluster.specs.declared.Call.the-variants as call
 use Rattle.cluster.specs.State.{State, freshEntry, idleServer, serverAt, putServer, putRegister, entryAt, markAt}
 use Rattle.cluster.specs.Replies.{ok}
 use Rattle.cluster.specs.Refusals.{Input, Row, closingFits, entriesFit, serverFits, markAbove, answered, isOpen, voteMark, cleanAt, sessionAtTop, sessionDiffers, checksOf, rowsOf, Verdict, pass, declined, firstOf}
-use Rattle.cluster.specs.Effects.{Result, noBytes, acknowledge, afterMessage, replyTo, withMediumAndServer, message, prepareEffect, trimEffect, noteEffect, looked, readEffect, exportEffect, appendEffect, arrives, raisedSession, takeEffect, openEffect, issueEffect, stopEffect, raisedGeneration, reassignEffect}
+use Rattle.cluster.specs.Effects.{Result, noBytes, acknowledge, afterMessage, replyTo, withMediumAndServer, message, prepareEffect, trimEffect, noteEffect, looked, readEffect, exportEffect, appendEffect, arrives, raisedSession, takeEffect, openEffect, issueEffect, stopEffect, raisedGeneration, reassignEffect, restoredRegister, restoredMedium, restoreEffect}
 use Rattle.cluster.specs.Step.{effect, unless, step, written, ifOk, filesAfter}
 use Rattle.cluster.proofs.Rows.{conditionOf, passed}
-use Rattle.cluster.proofs.Visible.{visibleRegister, visibleServer, visible, server-is, mark-same, undecided-same, voteMark-same, clean-same, message-same, issued-same, opening-same, opened-same, opened-register, raised-same, put-same, register-again, state-again}
+use Rattle.cluster.proofs.Visible.{visibleRegister, visibleServer, visible, server-is, mark-same, restored-same, undecided-same, voteMark-same, clean-same, message-same, issued-same, opening-same, opened-same, opened-register, raised-same, put-same, register-again, restored-register, register-put, state-again}
 
 -- ---- the statement: `visible r x` is x without the entries and recorded marks from r up (proofs/Visible)
 
@@ -200,7 +200,7 @@ module _ (h : Shape) (x : State) where
     verdict (call.Prepare s i f) = rw (server-is r x s, above-same)
     verdict (call.Copy s a b f) =
         at a s _ (λ e. rw (server-is r x s, above-same, e))
-        (λ l e. at b s _ (λ o. rw (server-is r x s, above-same, l, o)) (λ k o. rw (server-is r x s, above-same, e, o)))
+        (λ l e. at b s _ (λ o. rw (server-is r x s, above-same, l, o)) (λ k o. rw (server-is r x s, above-same, e, o, restored-same r (serverAt (x .records) s) a (leb-false r a l))))
     verdict (call.Trim s i f) =
         let v = serverAt (x .records) s in
         at i s _ (λ e. rw (server-is r x s, above-same, e))
@@ -217,6 +217,7 @@ module _ (h : Shape) (x : State) where
     verdict (call.Export s i f) = at i s _ (λ e. rw (server-is r x s, above-same, e)) (λ l e. rw (server-is r x s, above-same, e))
     verdict (call.Stop s) = rw (above-same)
     verdict call.Reassign = rw (above-same)
+    verdict (call.Restore i) = rw (above-same)
 
     -- ---- the effect, and the call
 
@@ -224,7 +225,7 @@ module _ (h : Shape) (x : State) where
     Effects c = Alike r (effect h x p c) (effect h z p c)
 
     effects : (c : Call) → ((n : ℕ) → conditionOf n (listFor x c) ≡ false) → Effects c
-    unfolding prepareEffect trimEffect noteEffect readEffect exportEffect appendEffect issueEffect stopEffect reassignEffect
+    unfolding prepareEffect trimEffect noteEffect readEffect exportEffect appendEffect issueEffect stopEffect reassignEffect restoreEffect
     effects (call.Take s f) none = take-alike s f
     effects (call.Prepare s i f) none =
         let l = leb-false r i (none 4) in
@@ -263,6 +264,15 @@ module _ (h : Shape) (x : State) where
           bytes = refl;
           state = state-again r (record { records = putRegister (x .records) (raisedGeneration (x .records .register)); media = x .media; tables = x .tables });
         }
+    effects (call.Restore i) none =
+        let g = x .records .register in
+        record {
+          reply = refl;
+          bytes = refl;
+          state =
+              register-put r x (restoredRegister g i) _ (withMedium (h .places) i (restoredMedium (g .session + 1) (p .backup)) (x .media))
+              (restored-register r i g (leb-false r i (none 4)));
+        }
 
     unless-alike : (d : Verdict) → (d ≡ pass → Effects (p .call)) → Alike r (unless d x (effect h x p (p .call))) (unless d z (effect h z p (p .call)))
     unfolding unless
@@ -293,6 +303,7 @@ module _ (h : Shape) (x : State) where
     writes (call.Export s i f) none = rw (server-is r x s, mark-same r (serverAt (x .records) s) i (leb-false r i (none 4)))
     writes (call.Stop s) none = refl
     writes call.Reassign none = refl
+    writes (call.Restore i) none = refl
 
     files-alike : (d : Verdict) → (d ≡ pass → Writes (p .call))
         → ifOk (unless d x (effect h x p (p .call)) .reply) (written h x p (p .call)) (p .files)

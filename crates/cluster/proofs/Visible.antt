@@ -17,9 +17,9 @@ use Rattle.cluster.specs.declared.Entry.{Entry}
 use Rattle.cluster.specs.declared.Register.{Register}
 use Rattle.cluster.specs.declared.Server.{Server}
 use Rattle.cluster.specs.declared.Request.{Request}
-use Rattle.cluster.specs.State.{State, freshEntry, idleServer, noServer, serverAt, entryAt, markAt, memberAt, activeAt, votesAt}
+use Rattle.cluster.specs.State.{State, freshEntry, idleServer, noServer, serverAt, entryAt, markAt, memberAt, activeAt, isRestored, restoredAt, votesAt}
 use Rattle.cluster.specs.Refusals.{answered, isOpen, undecided, voteMark, cleanAt}
-use Rattle.cluster.specs.Effects.{withReplica, heard, acknowledge, afterMessage, issuedServer, openingServer, entryAfter, openedRegister, openedServer}
+use Rattle.cluster.specs.Effects.{withReplica, heard, acknowledge, afterMessage, issuedServer, openingServer, entryAfter, openedRegister, openedServer, restoredEntry, restoredRegister}
 
 -- ---- the definition
 
@@ -101,11 +101,17 @@ module _ (r : ℕ) (v : Server) where
   pub mark-same : Same r (markAt (visibleServer r v)) (markAt v)
   mark-same i h = getD-take r (v .marks) i 0 h
 
+  pub restored-same : (i : ℕ) → i < r → restoredAt (visibleServer r v) i ≡ restoredAt v i
+  restored-same i h = ap (λ (e : Entry). isRestored (e .closing)) (getD-take r (v .entries) i freshEntry h)
+
+  votes-same : Same r (votesAt (visibleServer r v)) (votesAt v)
+  votes-same i h = ap (λ (b : Bool). activeAt v i && not b) (restored-same i h)
+
   pub undecided-same : undecided r (visibleServer r v) ≡ undecided r v
-  undecided-same = ap not (decided-same r (votesAt v) (votesAt v) (markAt (visibleServer r v)) (markAt v) (λ i h. refl) mark-same)
+  undecided-same = ap not (decided-same r (votesAt (visibleServer r v)) (votesAt v) (markAt (visibleServer r v)) (markAt v) votes-same mark-same)
 
   pub voteMark-same : voteMark r (visibleServer r v) ≡ voteMark r v
-  voteMark-same = majority-same r (votesAt v) (votesAt v) (markAt (visibleServer r v)) (markAt v) (λ i h. refl) mark-same
+  voteMark-same = majority-same r (votesAt (visibleServer r v)) (votesAt v) (markAt (visibleServer r v)) (markAt v) votes-same mark-same
 
   pub clean-same : (d : ℕ) → Same r (cleanAt (visibleServer r v) d) (cleanAt v d)
   clean-same d i h = ap (λ (m : ℕ). activeAt v i && eqb m d) (mark-same i h)
@@ -162,6 +168,11 @@ pub raised-same : (b : Bool) (r : ℕ) (v w : Server) → visibleServer r v ≡ 
 raised-same true r v w e = acknowledged-same r v w e
 raised-same false r v w e = e
 
+pub restored-register : (r i : ℕ) (g : Register) → i < r
+    → visibleRegister r (restoredRegister (visibleRegister r g) i) ≡ visibleRegister r (restoredRegister g i)
+restored-register r i g h =
+    rw (getD-take r (g .entries) i freshEntry h, take-put r (g .entries) i (restoredEntry (entryAt (g .entries) i)) h)
+
 -- register, server s, media and tables put into a state, and into what is read of it
 module _ (r : ℕ) (x : State) where
   pub put-same : (g k : Register) (s : ℕ) (v w : Server) (media tables : List ℕ)
@@ -172,6 +183,15 @@ module _ (r : ℕ) (x : State) where
   put-same g k s v w media tables e d =
       ap₂ (λ (u : Register) (l : List Server). record { records = record { register = u; servers = l }; media = media; tables = tables })
       (sym e) (sym (map-put (visibleServer r) (x .records .servers) s w v (server-again r) d))
+
+  -- the same, with every server as it is
+  pub register-put : (g k : Register) (media : List ℕ)
+      → visibleRegister r k ≡ visibleRegister r g
+      → visible r (record { records = record { register = g; servers = x .records .servers }; media = media; tables = x .tables })
+      ≡ visible r (record { records = record { register = k; servers = visible r x .records .servers }; media = media; tables = x .tables })
+  register-put g k media e =
+      ap₂ (λ (u : Register) (l : List Server). record { records = record { register = u; servers = l }; media = media; tables = x .tables })
+      (sym e) (sym (map-twice (visibleServer r) (x .records .servers) (server-again r)))
 
   pub state-again : visible r x ≡ visible r (visible r x)
   state-again =

@@ -44,7 +44,7 @@ returns-2 c =
     let a = c .before .before .before .before .before .before .before .before .before .before .before .before .before .args in
     let x = stateOf (a .records) (a .media .now) (a .tables .now) in
     by-rows (a .shape) x (a .replica) (a .backup .now) (c .before .before .before .before .before .before .before .before .before .other-length .ensures) (c .before .before .before .before .before .before .before .before .if1 .left) (c .before .before .before .before .admit-cluster .ensures (a .media .now) (a .tables .now) refl refl)
-    (rw (← (c .before .before .before .before .before .before .at-top .ensures), ← (c .before .before .before .before .before .has-no-slot .ensures), ← (c .before .before .also .ensures), ← (c .before .also2 .ensures)) (c .also3 .ensures))
+    (rw (c .also3 .ensures, c .before .also2 .ensures, c .before .before .also .ensures, c .before .before .before .before .before .has-no-slot .ensures, c .before .before .before .before .before .before .at-top .ensures))
 
 pub judge-spec : {M : Type 1} → statement M
 judge-spec =

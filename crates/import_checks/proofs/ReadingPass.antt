@@ -16,10 +16,10 @@ use Rattle.storage.specs.Sizes.{dataLimit}
 use Rattle.storage.specs.Places.{sizeOf}
 use Rattle.segment.specs.Pair.{offsetSize}
 use Rattle.segment.specs.Records.{recordSize, longestRecord, sized, isRecord, numbersSize}
-use Rattle.segment_import.specs.Import.{Reply, ok, no, offsetsDiffer, recordsUnfit}
+use Rattle.import_checks.specs.Refusals.{Reply, ok, no, offsetsDiffer, recordsUnfit}
 use Rattle.segment.proofs.Writing.{size-is}
-use Rattle.segment_import.proofs.RecordTests.{is-sized}
-use Rattle.segment_import.proofs.ReadingRecords.{cut-short}
+use Rattle.segment_reader.proofs.RecordTests.{is-sized}
+use Rattle.segment_reader.proofs.ReadingRecords.{cut-short}
 
 -- what is said of k offsets and records that are left, b: a record before them has failed
 unfoldable pub judged : Bool → ℕ → ℕ → List ℕ → ℕ → List ℕ → Reply

@@ -16,10 +16,10 @@ use Rattle.storage.specs.Log.{placeAt}
 use Rattle.segment.specs.declared.header.Stamp.{Stamp}
 use Rattle.segment.specs.Header.{headerSize, headerBytes}
 use Rattle.segment.specs.Pair.{Files, indexSize}
-use Rattle.segment_import.specs.Import.{offsetsIn, outside, sameBytes, otherHeader, unready}
+use Rattle.import_checks.specs.Refusals.{offsetsIn, outside, sameBytes, otherHeader, unready}
 use Rattle.base.proofs.Tests.{either, neither}
 use Rattle.storage.proofs.Filled.{all-wiped}
-use Rattle.segment_import.proofs.Wiped.{some-written}
+use Rattle.import_checks.proofs.Wiped.{some-written}
 
 -- ================ tests and what they say
 

@@ -7,11 +7,11 @@ use native.Mathlib.Omega.{arith}
 use Rattle.segment.specs.Header.{headerSize}
 use Rattle.segment.specs.Pair.{offsetSize}
 use Rattle.segment.specs.Records.{longestRecord, isRecord}
-use Rattle.segment_import.proofs.ReadingRecords.{to-end}
-use Rattle.segment_import.proofs.ReadingPass.{judged, size-zero, size-there, now-judged, turn-other, turn-unsized, turn-next, turn-end, within}
+use Rattle.segment_reader.proofs.ReadingRecords.{to-end}
+use Rattle.import_checks.proofs.ReadingPass.{judged, size-zero, size-there, now-judged, turn-other, turn-unsized, turn-next, turn-end, within}
 use borrow.Author.Needs.{needs}
-use Rattle.segment_import.proofs.judge.judge_pair.Statement.{statement}
-use Rattle.segment_import.proofs.judge.judge_pair.Tie as tie
+use Rattle.import_checks.proofs.judge.judge_pair.Statement.{statement}
+use Rattle.import_checks.proofs.judge.judge_pair.Tie as tie
 
 abbrev Inv-loop : tie.InvT-loop
 Inv-loop t file index count spoilt₀ n₀ at₀ i₀ spoilt n at i =

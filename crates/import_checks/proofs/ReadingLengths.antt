@@ -9,7 +9,7 @@ use borrow.Author.Tests.{le-leb, lt-leb, eq-eqb, ne-eqb}
 use Rattle.storage.specs.Sizes.{placesLimit, mediumSize}
 use Rattle.segment.specs.Header.{headerSize}
 use Rattle.segment.specs.Pair.{offsetSize, indexSize}
-use Rattle.segment_import.specs.Import.{offsetsIn, outside}
+use Rattle.import_checks.specs.Refusals.{offsetsIn, outside}
 
 pub offsets-none : (size : ℕ) → size < headerSize → 0 ≡ offsetsIn size
 unfolding offsetsIn

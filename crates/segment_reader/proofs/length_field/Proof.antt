@@ -1,8 +1,8 @@
 -- `place::length_field`: the last of a place's numbers.
 use Rattle.storage.specs.Places.{sizeOf}
 use borrow.Author.Needs.{needs}
-use Rattle.segment_import.proofs.place.length_field.Statement.{statement}
-use Rattle.segment_import.proofs.place.length_field.Tie as tie
+use Rattle.segment_reader.proofs.length_field.Statement.{statement}
+use Rattle.segment_reader.proofs.length_field.Tie as tie
 
 sub-get-be : tie.Need-sub-get-be
 sub-get-be c = search needs

@@ -1,31 +1,22 @@
 // Whether a pair can be imported: the slices' lengths, the headers and the medium, then offsets and records in one pass over both files.
 ghost use mathlib.Core.Path.{_≡_};
-ghost use mathlib.Core.Bool.{true, false, not, cond, _||_};
-ghost use Prim.Native.Nat.{_+_, _≤_};
+ghost use mathlib.Core.Bool.{false, not, cond, _||_};
+ghost use Prim.Native.Nat.{_≤_};
 ghost use lib.ListN.{length, take, drop};
 ghost use Rattle.crc32.specs.Tables.{tablesOf};
-ghost use Rattle.storage.specs.Layout.{dataOffset};
-ghost use Rattle.storage.specs.Sizes.{placeLayout, dataLimit, slotsSize};
-ghost use Rattle.storage.specs.Places.{sizeOf};
+ghost use Rattle.storage.specs.Sizes.{slotsSize};
 ghost use Rattle.segment.specs.Header.{headerSize};
-ghost use Rattle.segment.specs.Records.{recordSize, longestRecord, sized, isRecord};
 ghost use Rattle.segment.specs.Pair.{indexSize};
-ghost use Rattle.segment_import.specs.Import.{offsetsIn, outside, sameBytes, unready, offsetsDiffer, recordsUnfit, ok, no, replyOf};
+ghost use Rattle.import_checks.specs.Refusals.{offsetsIn, outside, sameBytes, unready, offsetsDiffer, recordsUnfit, ok, no, replyOf};
 use crate::Imported;
 use crate::Reason;
-use crate::place::length_field;
 use crc32::Tables;
 use segment::header::HEADER;
 use segment::header::Stamp;
 use segment::header::write_header;
 use segment::pair::OFFSET;
-use segment::record::CHECK_AT;
-use segment::record::CONTENT_AT;
-use segment::record::LEAST;
-use storage::sizes::CLIENT_AT;
-use storage::sizes::DATA_AT;
-use storage::sizes::DATA_LIMIT;
-use storage::sizes::ID_AT;
+use segment_reader::is_record;
+use segment_reader::size_at;
 use storage::sizes::PLACES_LIMIT;
 use storage::sizes::SLOTS;
 use storage::sizes::medium_size;
@@ -84,43 +75,6 @@ pub fn is_unready(places: u64, m: &[u8], z: Stamp, file: &[u8], index: &[u8]) ->
         return true;
     }
     places < offsets_in(index.len()) as u64
-}
-
-// The size of the record at an offset; 0 where its length field is above the limit or not wholly in the file.
-fn size_at(file: &[u8], at: usize) -> usize
-    requires { ⌜ at ≤ length (now file) + longestRecord ⌝ }
-    ensures { λ r. ⌜ r ≡ cond (sized (drop at (now (file .entry)))) (recordSize (drop at (now (file .entry)))) 0 ⌝ }
-{
-    if file.len() < at + DATA_AT {
-        return 0;
-    }
-    let k = length_field(&file[at..]);
-    if (DATA_LIMIT as u64) < k {
-        return 0;
-    }
-    LEAST + k as usize
-}
-
-// s begins with record n.
-fn is_record(t: &Tables, s: &[u8], n: u64) -> bool
-    requires { ⌜ now t ≡ tablesOf ⌝ }
-    requires { ⌜ dataOffset placeLayout ≤ length (now s) ⌝ }
-    requires { ⌜ sizeOf (now s) ≤ dataLimit ⌝ }
-    ensures { λ b. ⌜ b ≡ isRecord n (now (s .entry)) ⌝ }
-{
-    let k = length_field(s) as usize;
-    let end = CONTENT_AT + k;
-    let size = LEAST + k;
-    if s.len() < size {
-        return false;
-    }
-    if octets::get_be(&s[ID_AT..CLIENT_AT]) != n {
-        return false;
-    }
-    if crc32::crc(t, &s[CONTENT_AT..end]) as u64 != octets::get_be(&s[CHECK_AT..CONTENT_AT]) {
-        return false;
-    }
-    crc32::check(t, &s[0..size], end)
 }
 
 // 25 and 26. A record that fails is no reason to stop: a later offset may be another, and goes before it.

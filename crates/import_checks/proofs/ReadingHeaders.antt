@@ -13,8 +13,8 @@ use Rattle.storage.specs.Sizes.{slotsSize}
 use Rattle.segment.specs.declared.header.Stamp.{Stamp}
 use Rattle.segment.specs.Header.{headerSize}
 use Rattle.segment.specs.Pair.{Files}
-use Rattle.segment_import.proofs.Judged.{same-same, same-bytes}
-use Rattle.segment_import.specs.Import.{offsetsIn, sameBytes, otherHeader, unready}
+use Rattle.import_checks.proofs.Judged.{same-same, same-bytes}
+use Rattle.import_checks.specs.Refusals.{offsetsIn, sameBytes, otherHeader, unready}
 
 -- ---- equal bytes
 

@@ -9,12 +9,12 @@ use Rattle.octets.specs.Octets.{allZero}
 use Rattle.storage.specs.Sizes.{slotsSize}
 use Rattle.segment.specs.Header.{headerSize}
 use Rattle.segment.specs.Pair.{Files}
-use Rattle.segment_import.specs.Import.{sameBytes, otherHeader}
-use Rattle.segment_import.proofs.ReadingHeaders.{other-data, other-index, not-wiped, by-count, long-enough}
-use Rattle.segment_import.proofs.ReadingRecords.{to-end}
+use Rattle.import_checks.specs.Refusals.{sameBytes, otherHeader}
+use Rattle.import_checks.proofs.ReadingHeaders.{other-data, other-index, not-wiped, by-count, long-enough}
+use Rattle.segment_reader.proofs.ReadingRecords.{to-end}
 use borrow.Author.Needs.{needs}
-use Rattle.segment_import.proofs.judge.is_unready.Statement.{statement}
-use Rattle.segment_import.proofs.judge.is_unready.Tie as tie
+use Rattle.import_checks.proofs.judge.is_unready.Statement.{statement}
+use Rattle.import_checks.proofs.judge.is_unready.Tie as tie
 
 slice-aggregate-write-header : tie.Need-slice-aggregate-write-header
 slice-aggregate-write-header c = search needs

@@ -9,10 +9,10 @@ use Rattle.crc32.specs.Crc32.{crcOf, checked}
 use Rattle.storage.specs.Places.{idOf, sizeOf}
 use Rattle.segment.specs.Records.{recordSize, checkIn, contentIn, contentOffset, leastRecord}
 use Rattle.segment.proofs.Writing.{size-is}
-use Rattle.segment_import.proofs.ReadingRecords.{cut-short, misnumbered, spoilt-data, by-check}
+use Rattle.segment_reader.proofs.ReadingRecords.{cut-short, misnumbered, spoilt-data, by-check}
 use borrow.Author.Needs.{needs}
-use Rattle.segment_import.proofs.judge.is_record.Statement.{statement}
-use Rattle.segment_import.proofs.judge.is_record.Tie as tie
+use Rattle.segment_reader.proofs.is_record.Statement.{statement}
+use Rattle.segment_reader.proofs.is_record.Tie as tie
 
 length-field-requires : tie.Need-length-field-requires
 length-field-requires c κs = c .before .pre .1 .0

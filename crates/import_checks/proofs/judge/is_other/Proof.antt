@@ -1,10 +1,10 @@
 -- `judge::is_other`: too short for a header (`too-short`), or as the kit's comparison says (`same-is`).
 use mathlib.Core.Path.{ap}
 use mathlib.Core.Bool.{not}
-use Rattle.segment_import.proofs.ReadingHeaders.{same-is, too-short}
+use Rattle.import_checks.proofs.ReadingHeaders.{same-is, too-short}
 use borrow.Author.Needs.{needs}
-use Rattle.segment_import.proofs.judge.is_other.Statement.{statement}
-use Rattle.segment_import.proofs.judge.is_other.Tie as tie
+use Rattle.import_checks.proofs.judge.is_other.Statement.{statement}
+use Rattle.import_checks.proofs.judge.is_other.Tie as tie
 
 returns : tie.Need-returns
 returns c = let a = c .before .before .before .args in too-short (a .file .now) (a .h .now) (c .before .before .before .pre) (c .if1 .taken)

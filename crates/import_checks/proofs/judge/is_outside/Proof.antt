@@ -5,10 +5,10 @@ use Prim.Native.Nat.{ℕ}
 use lib.Dec.{eqb}
 use native.Mathlib.Omega.{arith}
 use Rattle.segment.specs.Pair.{indexSize}
-use Rattle.segment_import.proofs.ReadingLengths.{offsets-fit, no-place, too-many, other-medium, by-index}
+use Rattle.import_checks.proofs.ReadingLengths.{offsets-fit, no-place, too-many, other-medium, by-index}
 use borrow.Author.Needs.{needs}
-use Rattle.segment_import.proofs.judge.is_outside.Statement.{statement}
-use Rattle.segment_import.proofs.judge.is_outside.Tie as tie
+use Rattle.import_checks.proofs.judge.is_outside.Statement.{statement}
+use Rattle.import_checks.proofs.judge.is_outside.Tie as tie
 
 returns : tie.Need-returns
 returns c = let a = c .before .args in no-place (a .places) (a .medium) (a .index) (c .if1 .taken)

@@ -4,11 +4,11 @@ use lib.ListN.{drop, length-drop}
 use native.Mathlib.Omega.{arith}
 use Rattle.storage.specs.Places.{sizeOf}
 use Rattle.segment.proofs.Writing.{size-is}
-use Rattle.segment_import.proofs.RecordTests.{is-sized}
-use Rattle.segment_import.proofs.ReadingRecords.{to-end, not-there, too-long}
+use Rattle.segment_reader.proofs.RecordTests.{is-sized}
+use Rattle.segment_reader.proofs.ReadingRecords.{to-end, not-there, too-long}
 use borrow.Author.Needs.{needs}
-use Rattle.segment_import.proofs.judge.size_at.Statement.{statement}
-use Rattle.segment_import.proofs.judge.size_at.Tie as tie
+use Rattle.segment_reader.proofs.size_at.Statement.{statement}
+use Rattle.segment_reader.proofs.size_at.Tie as tie
 
 add-if1 : tie.Need-add-if1
 add-if1 c = search needs

@@ -1,9 +1,9 @@
 -- `judge::offsets_in`: a file shorter than a header has none (`offsets-none`).
 use mathlib.Core.Path.{refl}
-use Rattle.segment_import.specs.Import.{offsetsIn}
-use Rattle.segment_import.proofs.ReadingLengths.{offsets-none}
-use Rattle.segment_import.proofs.judge.offsets_in.Statement.{statement}
-use Rattle.segment_import.proofs.judge.offsets_in.Tie as tie
+use Rattle.import_checks.specs.Refusals.{offsetsIn}
+use Rattle.import_checks.proofs.ReadingLengths.{offsets-none}
+use Rattle.import_checks.proofs.judge.offsets_in.Statement.{statement}
+use Rattle.import_checks.proofs.judge.offsets_in.Tie as tie
 
 returns : tie.Need-returns
 returns c = offsets-none (c .before .args .size) (c .if1 .taken)

@@ -7,12 +7,12 @@ use borrow.Rule.Slice.PartMut.{same-len-mid}
 use Rattle.storage.specs.Log.{placesFrom}
 use Rattle.storage.proofs.Scan.{length-places}
 use Rattle.octets.proofs.Laws.{length-part}
 use Rattle.segment.specs.Header.{headerSize}
 use Rattle.segment.specs.Pair.{recordsOf, offsetsFrom, offsetSize, pairOf, recordsSize}
 use Rattle.segment.proofs.Writing.{length-records, length-offsets, file-written}
 use borrow.Author.Needs.{needs}
-use Rattle.segment.proofs.pair.write_pair.Statement.{statement}
-use Rattle.segment.proofs.pair.write_pair.Tie as tie
+use Rattle.segment_writer.proofs.write_pair.Statement.{statement}
+use Rattle.segment_writer.proofs.write_pair.Tie as tie
 
 sub-write-header : tie.Need-sub-write-header
 sub-write-header c = search needs

@@ -6,14 +6,14 @@ use lib.ListN.{length}
 use Rattle.storage.specs.Sizes.{slotsSize, placeSize}
 use Rattle.storage.specs.Log.{placesFrom}
 use Rattle.storage.proofs.Scan.{place-here}
 use Rattle.segment.specs.Header.{headerSize}
 use Rattle.segment.specs.Records.{longestRecord}
 use Rattle.segment.specs.Pair.{recordsSize, dataSize}
 use Rattle.segment.proofs.Writing.{left, left-all, length-place, size-turn, size-none}
 use native.Mathlib.Omega.{arith}
 use borrow.Author.Needs.{needs}
-use Rattle.segment.proofs.pair.data_size.Statement.{statement}
-use Rattle.segment.proofs.pair.data_size.Tie as tie
+use Rattle.segment_writer.proofs.data_size.Statement.{statement}
+use Rattle.segment_writer.proofs.data_size.Tie as tie
 
 abbrev Inv-loop : tie.InvT-loop
 Inv-loop m k size₀ n₀ a₀ size n a =

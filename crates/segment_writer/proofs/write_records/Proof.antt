@@ -10,13 +10,13 @@ use Rattle.storage.specs.Sizes.{slotsSize, placeSize}
 use Rattle.storage.specs.Places.{fieldsIn, dataOf}
 use Rattle.storage.specs.Log.{placeAt, placesFrom}
 use Rattle.storage.proofs.Scan.{place-here}
 use Rattle.segment.specs.Header.{headerSize}
 use Rattle.segment.specs.Records.{recordBytes, recordSize}
 use Rattle.segment.specs.Pair.{offsetSize, recordsOf, offsetsFrom, recordsSize, dataSize}
 use Rattle.segment.proofs.Writing.{left, left-all, length-place, size-turn, records-next, offsets-next, records-end, offsets-end}
 use borrow.Author.Needs.{needs}
-use Rattle.segment.proofs.pair.write_records.Statement.{statement}
-use Rattle.segment.proofs.pair.write_records.Tie as tie
+use Rattle.segment_writer.proofs.write_records.Statement.{statement}
+use Rattle.segment_writer.proofs.write_records.Tie as tie
 
 abbrev Inv-loop : tie.InvT-loop
 Inv-loop t file₀ index₀ m k n₀ a₀ at₀ i₀ file index n a at i =

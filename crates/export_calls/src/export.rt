@@ -57,7 +57,7 @@ fn other_sizes(m: &[u8], k: usize, file: usize, index: usize) -> bool
     requires { ⌜ k ≤ placesLimit ⌝ }
     ensures { λ b. ⌜ ((files : Files) → length (files .dataFile) ≡ file → length (files .indexFile) ≡ index → b ≡ otherSizes (placesFrom k 1 (now (m .entry))) files) ⌝ }
 {
-    if file != pair::data_size(m, k) {
+    if file != segment_writer::data_size(m, k) {
         return true;
     }
     index != HEADER + pair::OFFSET * k
@@ -88,7 +88,7 @@ fn export_by(
     if other_sizes(m, k, file.len(), index.len()) {
         return declined(records, Refusal::OutsideShape);
     }
-    pair::write_pair(t, file, index, stamp, m, k);
+    segment_writer::write_pair(t, file, index, stamp, m, k);
     read_by(records, s, i, [0u8; PLACE], heard)
 }
 

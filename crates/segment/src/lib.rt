@@ -1,4 +1,5 @@
-// Segment files: a log written out as a data file and an index file, in the fields and widths of document 004.
+// Segment files: a log as a data file and an index file, in the fields and widths of document 004; their header and a record written. The crate
+// `segment_writer` writes the pair.
 pub mod header;
 pub mod pair;
 pub mod record;

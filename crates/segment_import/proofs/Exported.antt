@@ -18,11 +18,11 @@ use Rattle.segment.specs.Header.{headerSize, keySize, headerBytes}
 use Rattle.segment.specs.Pair.{Files, offsetSize, recordsOf, offsetsFrom, pairOf, indexSize}
 use Rattle.segment.proofs.Headers.{length-header}
 use Rattle.segment.proofs.Writing.{length-offsets}
-use Rattle.segment_import.specs.Import.{offsetsIn}
+use Rattle.import_checks.specs.Refusals.{offsetsIn}
 use Rattle.storage.proofs.Filled.{AllValid}
 use Rattle.segment_import.proofs.Places.{placesIn, AllBytes, records-fit, places-back, offsets-agree}
 use Rattle.segment_import.proofs.Medium.{valid-places}
-use Rattle.segment_import.proofs.Judged.{offsets-of}
+use Rattle.import_checks.proofs.Judged.{offsets-of}
 use Rattle.segment_import.proofs.Replies.{differs, unfits}
 
 bytes-places : (k n : ℕ) (m : List ℕ) → Bytes m → AllBytes (placesFrom k n m)

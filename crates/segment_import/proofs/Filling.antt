@@ -21,9 +21,10 @@ use Rattle.storage.proofs.Layouts.{length-head, record-length}
 use Rattle.storage.proofs.RecordWritten.{fill-written}
 use Rattle.segment.specs.Records.{recordSize, contentIn, placeIn, isRecord, numbersSize, contentOffset}
 use Rattle.segment.proofs.Written.{numbers-kept}
-use Rattle.segment_import.specs.Import.{recordsUnfit, filled}
+use Rattle.import_checks.specs.Refusals.{recordsUnfit}
+use Rattle.segment_import.specs.Import.{filled}
 use Rattle.segment.proofs.Writing.{size-is}
-use Rattle.segment_import.proofs.RecordTests.{IsRecord, is-record}
+use Rattle.segment_reader.proofs.RecordTests.{IsRecord, is-record}
 use Rattle.base.proofs.Tests.{neither}
 
 -- ---- one place

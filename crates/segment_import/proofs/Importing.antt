@@ -10,8 +10,9 @@ use Rattle.storage.specs.Sizes.{mediumSize}
 use Rattle.segment.specs.declared.header.Stamp.{Stamp}
 use Rattle.segment.specs.Header.{headerSize}
 use Rattle.segment.specs.Pair.{Files, indexSize}
-use Rattle.segment_import.proofs.Judged.{inside-iff, ready-iff}
-use Rattle.segment_import.specs.Import.{Reply, ok, no, offsetsIn, outside, unready, offsetsDiffer, recordsUnfit, verdict, filled, ifOk, imported}
+use Rattle.import_checks.proofs.Judged.{inside-iff, ready-iff}
+use Rattle.import_checks.specs.Refusals.{Reply, ok, no, offsetsIn, outside, unready, offsetsDiffer, recordsUnfit, verdict}
+use Rattle.segment_import.specs.Import.{filled, ifOk, imported}
 
 -- what is said of k offsets and as many records
 abbrev pub judged-of : ℕ → Files → Reply

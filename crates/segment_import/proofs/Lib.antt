@@ -1,16 +1,9 @@
-pub mod RecordTests
 pub mod RecordBack
 pub mod Places
-pub mod Wiped
 pub mod Medium
-pub mod Judged
 pub mod Replies
 pub mod Exported
 pub mod Segments
 pub mod Stepwise
-pub mod ReadingLengths
-pub mod ReadingHeaders
-pub mod ReadingRecords
-pub mod ReadingPass
 pub mod Filling
 pub mod Importing

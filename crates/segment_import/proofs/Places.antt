@@ -20,8 +20,8 @@ use Rattle.storage.proofs.Filled.{AllValid, AllLong}
 use Rattle.segment.specs.Records.{recordSize, placeIn, sized, isRecord, longestRecord}
 use Rattle.segment.specs.Pair.{offsetSize, recordsOf, offsetsFrom}
 use Rattle.segment.proofs.Writing.{size-is}
-use Rattle.segment_import.specs.Import.{offsetsDiffer, recordsUnfit}
-use Rattle.segment_import.proofs.RecordTests.{is-record, is-sized}
+use Rattle.import_checks.specs.Refusals.{offsetsDiffer, recordsUnfit}
+use Rattle.segment_reader.proofs.RecordTests.{is-record, is-sized}
 use Rattle.segment_import.proofs.RecordBack.{place-long, back, forth}
 
 -- the places that k records at the front of s are read as

@@ -28,7 +28,7 @@ use Rattle.storage.proofs.PlaceCases.{valid-tests}
 use Rattle.segment.specs.Records.{recordLayout, recordNumbers, recordBytes, recordSize, checkIn, contentIn, placeIn, sized, isRecord, numbersSize, contentOffset, leastRecord}
 use Rattle.segment.proofs.Written.{length-record}
 use Rattle.segment.proofs.Writing.{size-is}
-use Rattle.segment_import.proofs.RecordTests.{IsRecord, front-part, is-record}
+use Rattle.segment_reader.proofs.RecordTests.{IsRecord, front-part, is-record}
 
 -- ================ what stands at the front
 

@@ -10,8 +10,9 @@ use lib.ListN.{length, drop}
 use Rattle.segment.specs.declared.header.Stamp.{Stamp}
 use Rattle.segment.specs.Header.{headerSize}
 use Rattle.segment.specs.Pair.{Files}
-use Rattle.segment_import.specs.Import.{Reply, ok, no, offsetsIn, outside, unready, offsetsDiffer, recordsUnfit, verdict, filled, ifOk, imported}
-use Rattle.segment_import.proofs.Judged.{Inside, inside-iff, Ready, ready-iff}
+use Rattle.import_checks.specs.Refusals.{Reply, ok, no, offsetsIn, outside, unready, offsetsDiffer, recordsUnfit, verdict}
+use Rattle.segment_import.specs.Import.{filled, ifOk, imported}
+use Rattle.import_checks.proofs.Judged.{Inside, inside-iff, Ready, ready-iff}
 
 -- the two tests over the files, at the numbers that the verdict gives them
 abbrev pub differs : Files → Bool

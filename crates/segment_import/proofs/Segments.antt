@@ -26,15 +26,16 @@ use Rattle.segment.specs.declared.header.Stamp.{Stamp}
 use Rattle.segment.specs.Header.{headerSize, keySize, headerBytes}
 use Rattle.segment.specs.Records.{recordSize, placeIn, sized, isRecord}
 use Rattle.segment.specs.Pair.{Files, offsetSize, recordsOf, offsetsFrom, pairOf, indexSize}
-use Rattle.segment_import.specs.Import.{ok, no, outside, unready, offsetsDiffer, recordsUnfit, offsetsIn, verdict, filled, imported}
+use Rattle.import_checks.specs.Refusals.{ok, no, outside, unready, offsetsDiffer, recordsUnfit, offsetsIn, verdict}
+use Rattle.segment_import.specs.Import.{filled, imported}
 use Rattle.storage.proofs.Filled.{AllValid, valid-long}
 use Rattle.segment_import.proofs.Places.{placesIn, nothing, first-fits, others-fit}
 use Rattle.segment_import.proofs.Places.{places-long, places-valid, records-again, offsets-again}
-use Rattle.segment_import.proofs.Wiped.{all-zero}
+use Rattle.import_checks.proofs.Wiped.{all-zero}
 use Rattle.segment_import.proofs.Medium.{Filled, filled-is}
 use Rattle.segment_import.proofs.Exported.{all-valid, heads, tails, index-size, offsets, agree, fit, places-again}
 use Rattle.base.proofs.Tests.{either}
-use Rattle.segment_import.proofs.Judged.{by-false, outside-iff, inside-iff, unready-iff}
+use Rattle.import_checks.proofs.Judged.{by-false, outside-iff, inside-iff, unready-iff}
 use Rattle.segment_import.proofs.Replies.{Replies, Passed, differs, unfits, verdict-is, replies, passed-iff, imported-ok, imported-no}
 
 -- ================ the statements

@@ -6,8 +6,8 @@ ghost use lib.ListN.{length, drop};
 ghost use Rattle.crc32.specs.Tables.{tablesOf};
 ghost use Rattle.storage.specs.Sizes.{mediumSize};
 ghost use Rattle.segment.specs.Header.{headerSize};
-ghost use Rattle.segment_import.specs.Import.{recordsUnfit, filled};
-use crate::place::length_field;
+ghost use Rattle.import_checks.specs.Refusals.{recordsUnfit};
+ghost use Rattle.segment_import.specs.Import.{filled};
 use crate::place::write_place;
 use crc32::Tables;
 use segment::header::HEADER;
@@ -28,7 +28,7 @@ pub fn fill(t: &Tables, m: &mut [u8], file: &[u8], count: usize)
     let mut a = SLOTS;
     while n < count {
         let e = a + PLACE;
-        let size = LEAST + length_field(&file[at..]) as usize;
+        let size = LEAST + segment_reader::length_field(&file[at..]) as usize;
         write_place(t, &mut m[a..e], &file[at..]);
         n += 1;
         at += size;

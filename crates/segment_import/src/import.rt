@@ -1,13 +1,14 @@
 // import: the pair is judged, and what passes is written.
 ghost use mathlib.Core.Path.{_≡_};
-ghost use Rattle.segment_import.specs.Import.{verdict, imported, replyOf};
-use crate::Imported;
-use crate::Reason;
+ghost use Rattle.import_checks.specs.Refusals.{verdict, replyOf};
+ghost use Rattle.segment_import.specs.Import.{imported};
 use crate::fill::fill;
-use crate::judge::is_outside;
-use crate::judge::is_unready;
-use crate::judge::judge_pair;
-use crate::judge::offsets_in;
+use import_checks::Imported;
+use import_checks::Reason;
+use import_checks::judge::is_outside;
+use import_checks::judge::is_unready;
+use import_checks::judge::judge_pair;
+use import_checks::judge::offsets_in;
 use segment::header::Stamp;
 
 // The data file `file` and the index file `index`, with the time and key of their headers, into the medium m of so many places.

@@ -3,23 +3,13 @@ ghost use mathlib.Core.Path.{_≡_};
 ghost use Prim.Native.Nat.{_≤_};
 ghost use lib.ListN.{length};
 ghost use Rattle.crc32.specs.Tables.{tablesOf};
-ghost use Rattle.storage.specs.Layout.{dataOffset};
-ghost use Rattle.storage.specs.Sizes.{placeLayout, placeSize, dataLimit};
+ghost use Rattle.storage.specs.Sizes.{placeSize, dataLimit};
 ghost use Rattle.storage.specs.Places.{sizeOf};
 ghost use Rattle.segment.specs.Records.{recordSize, placeIn};
 use crc32::Tables;
 use segment::record::CONTENT_AT;
 use storage::sizes::DATA_AT;
-use storage::sizes::LENGTH_AT;
 use storage::sizes::PLACE_CHECKED;
-
-// The length field of the record that s begins with.
-pub fn length_field(s: &[u8]) -> u64
-    requires { ⌜ dataOffset placeLayout ≤ length (now s) ⌝ }
-    ensures { λ r. ⌜ r ≡ sizeOf (now (s .entry)) ⌝ }
-{
-    octets::get_be(&s[LENGTH_AT..DATA_AT])
-}
 
 // The place of the record that s begins with.
 pub fn write_place(t: &Tables, out: &mut [u8], s: &[u8])
@@ -29,7 +19,7 @@ pub fn write_place(t: &Tables, out: &mut [u8], s: &[u8])
     requires { ⌜ recordSize (now s) ≤ length (now s) ⌝ }
     ensures { λ _. ⌜ now (out .exit) ≡ placeIn (now (s .entry)) ⌝ }
 {
-    let k = length_field(s) as usize;
+    let k = segment_reader::length_field(s) as usize;
     let end = CONTENT_AT + k;
     let behind = DATA_AT + k;
     octets::put(out, 0, &s[0..DATA_AT]);

@@ -9,9 +9,10 @@ use Rattle.storage.specs.Sizes.{slotsSize, placeSize}
 use Rattle.storage.specs.Places.{sizeOf}
 use Rattle.segment.specs.Header.{headerSize}
 use Rattle.segment.specs.Records.{recordSize, placeIn, leastRecord}
-use Rattle.segment_import.specs.Import.{recordsUnfit, filled}
+use Rattle.import_checks.specs.Refusals.{recordsUnfit}
+use Rattle.segment_import.specs.Import.{filled}
 use Rattle.segment.proofs.Writing.{size-is}
-use Rattle.segment_import.proofs.ReadingRecords.{to-end}
+use Rattle.segment_reader.proofs.ReadingRecords.{to-end}
 use Rattle.segment_import.proofs.Filling.{length-place, this-record, next-records, filled-next, filled-end}
 use borrow.Author.Needs.{needs}
 use Rattle.segment_import.proofs.fill.fill.Statement.{statement}

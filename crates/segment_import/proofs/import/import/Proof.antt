@@ -5,7 +5,8 @@ use lib.ListN.{drop}
 use native.Mathlib.Omega.{arith}
 use Rattle.segment.specs.Header.{headerSize}
 use Rattle.segment.specs.Pair.{Files, indexSize}
-use Rattle.segment_import.specs.Import.{ok, filled, replyOf}
+use Rattle.import_checks.specs.Refusals.{ok, replyOf}
+use Rattle.segment_import.specs.Import.{filled}
 use Rattle.segment_import.proofs.Importing.{judged-of, medium-fits, index-fits, places-enough, by-sizes, by-header, by-pass, stays, fills, all-fit}
 use borrow.Author.Needs.{needs}
 use Rattle.segment_import.proofs.import.import.Statement.{statement}

@@ -1,0 +1,5 @@
+pub mod Wiped
+pub mod Judged
+pub mod ReadingLengths
+pub mod ReadingHeaders
+pub mod ReadingPass

@@ -1,0 +1,2 @@
+pub mod RecordTests
+pub mod ReadingRecords

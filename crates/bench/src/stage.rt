@@ -1,4 +1,4 @@
-// The cluster that the jobs work on: seven replicas of 1,000 places, which one session may fill (K = N), driven by the twelve calls alone.
+// The cluster that the jobs work on: seven replicas of 1,000 places, which one session may fill (K = N), driven by the calls alone.
 use cluster::Answer;
 use cluster::Call;
 use cluster::Outcome;
@@ -48,7 +48,7 @@ fn data_behind(issued: u64) -> [u8; DATA_LIMIT] {
     out
 }
 
-// One call, with a request's data, and without locks. The key of an export's headers is all zeros.
+// One call, with a request's data, and without locks and backup. The key of an export's headers is all zeros.
 fn apply(
     r: Records,
     m: &mut [u8],
@@ -61,6 +61,7 @@ fn apply(
 ) -> Outcome {
     let none = [0u64; 1];
     let given = [0u8; PLACE];
+    let backup = [0u8; 1];
     let shape = Shape {
         replicas: REPLICAS,
         places: PLACES,
@@ -82,6 +83,7 @@ fn apply(
         stamp,
         file,
         index,
+        &backup[0..0],
     )
 }
 

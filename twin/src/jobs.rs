@@ -6,7 +6,7 @@
 pub mod scan;
 mod stage;
 
-use crate::cluster::{Answer, Call, Cluster, Entry, HELD};
+use crate::cluster::{Answer, Call, Closing, Cluster, Entry, HELD};
 use crate::convert;
 use crate::crc::crc32;
 use crate::fate::Fate;
@@ -81,7 +81,7 @@ fn prepare(count: u64) -> u64 {
     let mut cluster = filled(1000);
     let full = cluster.medium(0).to_vec();
     make(&mut cluster, Call::Take { server: 1, fate: Fate::Answered });
-    cluster.records.servers[1].entries[0] = Entry { session: 1, closing: Some(500) };
+    cluster.records.servers[1].entries[0] = Entry { session: 1, closing: Closing::Mark(500) };
     let ready = cluster.records;
     total(count, |_| {
         cluster.medium_mut(0).copy_from_slice(&full);

@@ -1,4 +1,4 @@
-//! A run of all twelve calls and of recoveries for the proved journal: lines that hand in state, make a
+//! A run of all thirteen calls and of recoveries for the proved journal: lines that hand in state, make a
 //! call or a recovery, and what this implementation replies.
 //!
 //! A line is a command word and its fields with a tab before each; numbers in base ten, bytes as
@@ -20,15 +20,24 @@
 //! | given | 72 BYTES | what a torn write leaves |
 //! | data | up to 72 BYTES | of the requests that follow |
 //! | locks | each of up to 8 | of the requests that follow |
+//! | backup | length, offset, BYTES | of the restores that follow: the length at which the backup is lent, and these bytes of it |
+//! | keep | replica | of the restores that follow: the backup is what the replica's medium holds now |
 //!
 //! Before anything is handed in, all is 0. A fresh line's R is at most 7 and its N at most 14; its K
 //! may be any, and so may all three of a shape line. A lend line's bytes are at most 8,008 (seven media
 //! of 15 places) and its marks at most 4,100.
 //!
-//! ENTRY stands for three fields: session; 0 if unresolved, else 1; the closing mark. The calls are
-//! take, prepare, copy, trim, open, issue, send, note, read, export, stop and reassign with their
-//! numbers in document 01's order (issue: server, client's mark, client, generation, partition,
-//! sequence, which has 64 bits, header; export: server, replica), then those of the fate: 0 answered,
+//! A backup is 1,144 bytes (a medium of 15 places), of which the first `length`, from 0 to 1,144, are lent. A
+//! backup line has any number of BYTES, also none; offset and their number are at most 1,144 together, and the
+//! other bytes stay as they were, also behind the length. A keep line's replica is at most 6. With L = 64 + 72 N,
+//! N being that of the shape, or 15 if that is more, it makes the length L and the first L bytes those of the
+//! media from replica × L on, whether they are lent or not; the others stay as they were.
+//!
+//! ENTRY stands for three fields: session; 0 unresolved, 1 closing mark or 2 restored; the closing mark, which
+//! says nothing unless it is 1 before it. The calls are take, prepare, copy, trim, open, issue, send, note,
+//! read, export, stop, reassign and restore with their numbers in document 01's order (issue: server,
+//! client's mark, client, generation, partition, sequence, which has 64 bits, header; export: server,
+//! replica; restore: replica), then, but for issue, stop, reassign and restore, those of the fate: 0 answered,
 //! 1 lost, 2 answer lost or 3 cut; the write w; 0 old, 1 new or 2 torn. Behind the fate an export has
 //! the time, the lengths at which data and index file are lent, up to 1,200 and 300 bytes, and the key,
 //! 16 BYTES. Each byte of both files is AA before the call.
@@ -66,6 +75,9 @@ mod recovery_fates;
 mod recovery_lists;
 mod recovery_states;
 mod recovery_trace;
+mod restore_counts;
+mod restore_states;
+mod restores;
 mod scenes;
 mod sequences;
 mod state_lines;
@@ -78,6 +90,7 @@ pub use counts::{Counts, CALLS};
 pub use names::UNSENT;
 pub use names::{AMOUNTS, BESIDE, CLIENTS, ENDS, ESTIMATES, FATES, GIVEN, INTERVALS, SEQUENCES};
 pub use recovery_counts::{FEATURES, PASSED, REPLIES, STEPS};
+pub use restore_counts::{AFTER, RESTORES};
 
 /// The stored run: its lines, what they print, and what it meets.
 pub struct Run {

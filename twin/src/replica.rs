@@ -53,11 +53,44 @@ impl Found {
     }
 }
 
+/// What a replica's entry says of its log.
+#[derive(Clone, Copy, Debug, Default, PartialEq, Eq)]
+pub enum Closing {
+    /// All of it may count.
+    #[default]
+    Unresolved,
+    /// Nothing above the closing mark does.
+    Mark(u64),
+    /// "marks the entry restored" (document 02, No. 10): the medium is from a backup, and nothing above its own
+    /// low-water mark counts.
+    Restored,
+}
+
+impl Closing {
+    /// The closing mark, if there is one.
+    pub fn mark(self) -> Option<u64> {
+        match self {
+            Closing::Mark(mark) => Some(mark),
+            Closing::Unresolved | Closing::Restored => None,
+        }
+    }
+
+    /// What a log on a medium with this current slot is truncated to. "Preparing a restored replica truncates
+    /// to its low-water mark."
+    fn cut(self, slot: Slot) -> Option<u64> {
+        match self {
+            Closing::Unresolved => None,
+            Closing::Mark(mark) => Some(mark),
+            Closing::Restored => Some(slot.low),
+        }
+    }
+}
+
 /// What a message asks a replica to do.
 #[derive(Clone, Copy, Debug, PartialEq, Eq)]
 pub enum Operation {
-    /// Promise the session, then truncate to the closing mark if there is one.
-    Prepare { session: u64, closing: Option<u64> },
+    /// Promise the session, then truncate as the entry says.
+    Prepare { session: u64, closing: Closing },
     /// Write these bytes in the place behind the mark.
     Append(PlaceBytes),
     /// Wipe every place of the log above this mark.
@@ -82,15 +115,17 @@ impl Operation {
             Operation::Note { low, local } => Some(found.slot_write(Slot { low, local, ..slot })),
             Operation::Truncate(_) | Operation::Read => None,
         };
-        first.into_iter().chain(truncation(mark, self.keeps(mark)))
+        first.into_iter().chain(truncation(mark, self.keeps(found)))
     }
 
-    /// How much of a log with this mark the operation leaves as it is.
-    pub fn keeps(&self, mark: u64) -> u64 {
-        match *self {
-            Operation::Prepare { closing: Some(to), .. } | Operation::Truncate(to) => to.min(mark),
-            _ => mark,
-        }
+    /// How much of the log the operation leaves as it is.
+    pub fn keeps(&self, Found { slot, mark, .. }: Found) -> u64 {
+        let cut = match *self {
+            Operation::Prepare { closing, .. } => closing.cut(slot),
+            Operation::Truncate(to) => Some(to),
+            _ => None,
+        };
+        cut.map_or(mark, |to| to.min(mark))
     }
 }
 

@@ -1,26 +1,28 @@
 //! The stored run of the replay program is what this implementation gives, and it meets every call,
 //! refusal, fate and kind of interval, gates and booking clients on both sides of their limits, locks on
 //! both sides of the client's mark, every end of an exported log, every number of records in flight,
-//! sequences on both sides of what 32 bits hold, header 0 in requests and in records, and recoveries with every
-//! reply, every fate at every kind of call, and every way to pass over a replica.
+//! sequences on both sides of what 32 bits hold, header 0 in requests and in records, recoveries with every
+//! reply, every fate at every kind of call, and every way to pass over a replica, and media restored from every
+//! kind of bytes.
 
 mod stored;
 
 use twin::cluster::{first_row, FILES_ROW, ORDER};
 use twin::replay::{self, AMOUNTS, CALLS, CLIENTS, ENDS, ESTIMATES, FATES, INTERVALS, UNSENT};
-use twin::replay::{BESIDE, FEATURES, GIVEN, PASSED, REPLIES, SEQUENCES, STEPS};
+use twin::replay::{AFTER, BESIDE, FEATURES, GIVEN, PASSED, REPLIES, RESTORES, SEQUENCES, STEPS};
 use twin::tries::headers::USES;
 
 /// Calls without a message, and those whose message goes to the register.
-const LOCAL: [&str; 3] = ["issue", "stop", "reassign"];
+const LOCAL: [&str; 4] = ["issue", "stop", "reassign", "restore"];
 const TO_REGISTER: [&str; 2] = ["take", "open"];
 
 /// The calls that each row of the list of documents 01 and 02 can decline.
 const DECLINED: [(u64, &[&str]); ORDER.len()] = [
     (1, &CALLS),
     (2, &CALLS),
-    (3, CALLS.split_last().expect("reassign names no server").1),
-    (4, &["prepare", "copy", "trim", "send", "note", "read", "export"]),
+    // reassign and restore name no server.
+    (3, CALLS.split_at(CALLS.len() - 2).0),
+    (4, &["prepare", "copy", "trim", "send", "note", "read", "export", "restore"]),
     (5, &["take", "prepare", "copy", "trim", "open", "issue", "send", "note", "read", "export"]),
     // The driver of recoveries alone.
     (29, &[]),
@@ -42,8 +44,9 @@ const DECLINED: [(u64, &[&str]); ORDER.len()] = [
     (19, &["prepare", "copy", "trim", "send", "note", "read", "export"]),
     (20, &["copy", "trim", "send", "note", "read", "export"]),
     (1, &["export"]),
-    (21, &["take", "reassign"]),
+    (21, &["take", "reassign", "restore"]),
     (22, &["open"]),
+    (30, &["restore"]),
 ];
 
 #[test]
@@ -197,7 +200,7 @@ fn header_0_is_declined_in_requests_alone() {
 fn recoveries_end_in_every_way() {
     let counts = replay::run().counts;
     let recoveries = counts.recoveries();
-    assert!((300..=600).contains(&recoveries.all()));
+    assert!((300..=800).contains(&recoveries.all()));
     for name in REPLIES {
         assert!(recoveries.replied(name) > 3, "{name}");
     }
@@ -250,11 +253,33 @@ fn recoveries_pass_over_replicas_and_go_on() {
     }
 }
 
+/// Of clusters of each size and with bytes of every kind, and each call on a replica that was restored: every
+/// fate of its prepare, cut at each write, with the promise to be written and written already.
+#[test]
+fn media_are_restored() {
+    let counts = replay::run().counts;
+    let restores = counts.restores();
+    assert_eq!(restores.made(), counts.ok("restore"));
+    assert!((150..=500).contains(&restores.made()), "{}", restores.made());
+    for replicas in [1, 3, 5, 7] {
+        assert!(restores.of(replicas) > 5, "R = {replicas}");
+    }
+    for name in RESTORES.into_iter().chain(AFTER) {
+        assert!(restores.met(name) > 0, "{name}");
+    }
+    for (promised, fate) in [false, true].into_iter().flat_map(|it| FATES.map(|fate| (it, fate))) {
+        let writes = if fate.starts_with("cut") { 1..=4 } else { 0..=0 };
+        for write in writes {
+            assert!(restores.fate(promised, fate, write) > 0, "{promised}, {fate} {write}");
+        }
+    }
+}
+
 #[test]
 fn lines_and_files_are_small() {
     let run = replay::run();
-    assert!(run.input.len() + run.output.len() < 900_000);
+    assert!(run.input.len() + run.output.len() < 1_150_000);
     assert!(run.input.lines().all(|line| line.len() <= 2_000));
     assert!(run.input.is_ascii() && run.input.ends_with('\n'));
-    assert!((3_000..=6_500).contains(&run.counts.calls()));
+    assert!((3_000..=7_500).contains(&run.counts.calls()));
 }

@@ -6,7 +6,7 @@ use twin::medium::{
     PLACE_BYTES, SLOTS_BYTES, SLOT_BYTES, WIPED,
 };
 use twin::random::Random;
-use twin::replica::{Found, Operation};
+use twin::replica::{Closing, Found, Operation};
 use twin::tries::records::draw_record;
 
 const PLACES: usize = 6;
@@ -202,10 +202,15 @@ fn prepare_cut_anywhere() {
     for_each_medium(|before, medium, random| {
         let (_, slot) = current(&medium).expect("a valid slot");
         let session = slot.promise + random.below(3);
-        for closing in (0..=before + 1).map(Some).chain([None]) {
+        let marks = (0..=before + 1).map(Closing::Mark);
+        for closing in marks.chain([Closing::Unresolved, Closing::Restored]) {
             let operation = Operation::Prepare { session, closing };
             let promises = u64::from(slot.promise != session);
-            let kept = closing.unwrap_or(before);
+            let kept = match closing {
+                Closing::Unresolved => before,
+                Closing::Mark(mark) => mark,
+                Closing::Restored => slot.low,
+            };
             let count = writes(&medium, operation);
             assert_eq!(count, promises + before.saturating_sub(kept));
             for fate in all_fates(count) {

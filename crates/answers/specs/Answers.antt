@@ -58,9 +58,9 @@ scripted r n = record { replicas = r; places = n; interval = n }
 abbrev pub clusterLine : Shape → Held → List ℕ → List ℕ → After
 clusterLine h p m tables = cond (accepted h) (holding (replyText (ok [])) h (fresh h) m) (unchanged (replyText (no 1 [])) p m tables)
 
--- fates of a script leave no given bytes, and no line exports
+-- fates of a script leave no given bytes, and no line exports or restores
 abbrev pub inputOf : Call → List ℕ → List ℕ → Input
-inputOf c content locks = record { call = c; content = content; locks = locks; given = replicate placeSize 0; stamp = noStamp; files = noFiles }
+inputOf c content locks = record { call = c; content = content; locks = locks; given = replicate placeSize 0; stamp = noStamp; files = noFiles; backup = [] }
 
 -- a call's reply, and the cluster that it leaves
 abbrev pub replied : Shape → Result → List ℕ → After

@@ -140,6 +140,7 @@ fn call_line(
     };
     let mut file = [0u8; 1];
     let mut index = [0u8; 1];
+    let backup = [0u8; 1];
     let o = apply::apply(
         shape,
         records,
@@ -152,6 +153,7 @@ fn call_line(
         stamp,
         &mut file[0..0],
         &mut index[0..0],
+        &backup[0..0],
     );
     let after = o.records;
     let a = o.answer;

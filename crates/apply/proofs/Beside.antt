@@ -1,5 +1,5 @@
 -- What lies beside a call that does not read it changes nothing, nor does such a call change it: data and locks are issue's, given bytes a replica
--- message's, and time, key and two files an export's.
+-- message's, time, key and two files an export's, and the backup a restore's.
 -- Assumes nothing.
 use mathlib.Core.Path.{_≡_, refl, sym, ap, ap₂, _∙_}
 use mathlib.Core.List.{List, []}
@@ -15,7 +15,7 @@ use Rattle.cluster.specs.Replies.{Reply, ok, no, silent}
 use Rattle.cluster.specs.Refusals.{Input, Row, rowsOf}
 use Rattle.cluster.specs.Effects.{Result}
 use Rattle.cluster.specs.Step.{effect, rest, step, written, ifOk, filesAfter}
-use Rattle.checks.specs.Results.{noFiles, noStamp, filesOf, besideOf, inputOf, exportOf}
+use Rattle.checks.specs.Results.{noFiles, noStamp, filesOf, besideOf, inputOf, exportOf, restoreOf}
 
 agree : (h : Shape) (x : State) (p q : Input) → rowsOf h x p ≡ rowsOf h x q → effect h x p (p .call) ≡ effect h x q (q .call) → step h x p ≡ step h x q
 unfolding step
@@ -31,10 +31,10 @@ left h x p e = rw e (go (step h x p .reply))
     go (no n values) = refl
     go silent = refl
 
-module _ (content locks given : List ℕ) (stamp : Stamp) (dataFile indexFile : List ℕ) where
+module _ (content locks given : List ℕ) (stamp : Stamp) (dataFile indexFile backup : List ℕ) where
   -- a call as `apply` gets it
   abbrev pub beside : Call → Input
-  beside c = besideOf c content locks given stamp dataFile indexFile
+  beside c = besideOf c content locks given stamp dataFile indexFile backup
 
   -- and as the call's own contract has it
   abbrev pub bare : Call → Input
@@ -43,13 +43,14 @@ module _ (content locks given : List ℕ) (stamp : Stamp) (dataFile indexFile : 
   bare (call.Copy s a b f) = inputOf (call.Copy s a b f) given
   bare (call.Trim s i f) = inputOf (call.Trim s i f) given
   bare (call.Open s f) = inputOf (call.Open s f) []
-  bare (call.Issue s q) = record { call = call.Issue s q; content = content; locks = locks; given = []; stamp = noStamp; files = noFiles }
+  bare (call.Issue s q) = record { call = call.Issue s q; content = content; locks = locks; given = []; stamp = noStamp; files = noFiles; backup = [] }
   bare (call.Send s i f) = inputOf (call.Send s i f) given
   bare (call.Note s i f) = inputOf (call.Note s i f) given
   bare (call.Read s i n f) = inputOf (call.Read s i n f) given
   bare (call.Export s i f) = exportOf (call.Export s i f) given stamp dataFile indexFile
   bare (call.Stop s) = inputOf (call.Stop s) []
   bare call.Reassign = inputOf call.Reassign []
+  bare (call.Restore i) = restoreOf i backup
 
   pub same : (h : Shape) (x : State) (c : Call) → step h x (bare c) ≡ step h x (beside c)
   same h x (call.Take s f) = agree h x (bare (call.Take s f)) (beside (call.Take s f)) refl refl
@@ -64,6 +65,7 @@ module _ (content locks given : List ℕ) (stamp : Stamp) (dataFile indexFile : 
   same h x (call.Export s i f) = agree h x (bare (call.Export s i f)) (beside (call.Export s i f)) refl refl
   same h x (call.Stop s) = agree h x (bare (call.Stop s)) (beside (call.Stop s)) refl refl
   same h x call.Reassign = agree h x (bare call.Reassign) (beside call.Reassign) refl refl
+  same h x (call.Restore i) = agree h x (bare (call.Restore i)) (beside (call.Restore i)) refl refl
 
   -- one arm of `apply`: the call that was matched, and what its own contract says; it is no export
   module _ (h : Shape) (x : State) (c c′ : Call) (r : Result) (e : c′ ≡ c) where

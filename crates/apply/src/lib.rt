@@ -1,4 +1,4 @@
-// Any of the twelve calls: the list of which the guarantee speaks is a list of these. Only an export writes the two files.
+// Any of the thirteen calls: the list of which the guarantee speaks is a list of these. Only an export writes the two files, and only a restore reads the backup.
 ghost use mathlib.Core.Path.{_≡_};
 ghost use Rattle.cluster.specs.Step.{step, filesAfter};
 ghost use Rattle.checks.specs.Results.{filesOf, stateOf, besideOf, resultOf};
@@ -25,8 +25,9 @@ pub fn apply(
     stamp: Stamp,
     file: &mut [u8],
     index: &mut [u8],
+    backup: &[u8],
 ) -> Outcome
-    ensures { λ o. ⌜ (resultOf o (now (media .exit)) (now (tables .exit)) ≡ step shape (stateOf records (now (media .entry)) (now (tables .entry))) (besideOf call (now (content .entry)) (now (locks .entry)) (now (given .entry)) stamp (now (file .entry)) (now (index .entry)))) × (filesOf (now (file .exit)) (now (index .exit)) ≡ filesAfter shape (stateOf records (now (media .entry)) (now (tables .entry))) (besideOf call (now (content .entry)) (now (locks .entry)) (now (given .entry)) stamp (now (file .entry)) (now (index .entry)))) ⌝ }
+    ensures { λ o. ⌜ (resultOf o (now (media .exit)) (now (tables .exit)) ≡ step shape (stateOf records (now (media .entry)) (now (tables .entry))) (besideOf call (now (content .entry)) (now (locks .entry)) (now (given .entry)) stamp (now (file .entry)) (now (index .entry)) (now (backup .entry)))) × (filesOf (now (file .exit)) (now (index .exit)) ≡ filesAfter shape (stateOf records (now (media .entry)) (now (tables .entry))) (besideOf call (now (content .entry)) (now (locks .entry)) (now (given .entry)) stamp (now (file .entry)) (now (index .entry)) (now (backup .entry)))) ⌝ }
 {
     match call {
         Call::Take(s, f) => register_calls::take::take(shape, records, media, tables, s, f),
@@ -53,5 +54,6 @@ pub fn apply(
         ),
         Call::Stop(s) => local_calls::stop::stop(shape, records, media, tables, s),
         Call::Reassign => local_calls::reassign::reassign(shape, records, media, tables),
+        Call::Restore(i) => restore::restore(shape, records, media, tables, i, backup),
     }
 }

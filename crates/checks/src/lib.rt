@@ -110,6 +110,7 @@ fn closing_fits(c: Closing, n: u64) -> bool
     match c {
         Closing::Unresolved => true,
         Closing::Mark(m) => m <= n,
+        Closing::Restored => true,
     }
 }
 
@@ -168,10 +169,11 @@ fn mark_above(records: Records, shape: Shape) -> bool
     !both(entries_fit(entries, shape), four)
 }
 
-fn active(known: bool, dropped: bool) -> bool
-    ensures { λ b. ⌜ b ≡ (known && not dropped) ⌝ }
+// The first, and not the second.
+pub fn but_not(a: bool, b: bool) -> bool
+    ensures { λ c. ⌜ c ≡ (a && not b) ⌝ }
 {
-    if known { !dropped } else { false }
+    if a { !b } else { false }
 }
 
 // The replicas that a server may use: known, or members, and not dropped.
@@ -180,7 +182,7 @@ pub fn active_flags(known: [bool; 7], dropped: [bool; 7]) -> [bool; 7]
 {
     let mut flags = [false; 7];
     for i in 0..7 {
-        flags[i] = active(known[i], dropped[i]);
+        flags[i] = but_not(known[i], dropped[i]);
     }
     flags
 }

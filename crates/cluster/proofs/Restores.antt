@@ -2,10 +2,9 @@
 -- that session as promise in both slots, with the current slot's low-water marks .. and answers the session". The statement comes first, then its proof; the
 -- theorem is `restores`.
 -- Assumes nothing.
-use mathlib.Core.Path.{_≡_, refl, sym, ap, _∙_}
-use mathlib.Core.Bool.{Bool, true, false, _||_}
+use mathlib.Core.Path.{_≡_, sym, ap, _∙_}
 use mathlib.Core.List.{List, [], _∷_}
-use Prim.Native.Nat.{ℕ, _+_, _*_, _^_, _≤_, _<_}
+use Prim.Native.Nat.{ℕ, _+_, _≤_}
 use native.Mathlib.Omega.{arith}
 use lib.ListN.{length}
 use borrow.Author.Tests.{not-false, eqb-true, leb-false}
@@ -18,15 +17,15 @@ use Rattle.storage.specs.declared.slot.Slot.{Slot}
 use Rattle.storage.specs.Sizes.{slotSize, placeSize, placeOffset, mediumSize}
 use Rattle.storage.specs.Slots.{slotBytes, slotOf, validSlot, firstOf as firstSlot, secondOf as secondSlot, storedSlot, HasSlot, FittingSlot}
 use Rattle.storage.specs.Log.{placeAt, markOf}
-use Rattle.storage.specs.Operations.{mediumAt, withMedium}
+use Rattle.storage.specs.Operations.{mediumAt}
 use Rattle.storage.proofs.SlotReadBack.{slot-back, slot-length, slot-valid}
 use Rattle.storage.proofs.SlotWrites.{stored-of-two}
 use Rattle.storage.proofs.Marks.{mark-kept}
 use Rattle.cluster.specs.declared.Shape.{Shape}
 use Rattle.cluster.specs.declared.Call.the-variants as call
-use Rattle.cluster.specs.State.{State, tableSize}
+use Rattle.cluster.specs.State.{State}
 use Rattle.cluster.specs.Replies.{Reply, ok, no, silent}
-use Rattle.cluster.specs.Refusals.{Input, outside, otherLength, rowsOf}
+use Rattle.cluster.specs.Refusals.{outside, otherLength, rowsOf}
 use Rattle.cluster.specs.Effects.{restoredSlot, restoredMedium, restoreEffect}
 use Rattle.cluster.specs.Step.{effect, step, unless}
 use Rattle.cluster.proofs.Blocks.{block-same, block-other}
@@ -130,6 +129,8 @@ restores h x i content locks given stamp files backup values q =
     let done = restored N z backup full in
     let q′ : ok (z ∷ []) ≡ ok values = rw through at q in
     rw through
-    ((sym (ap answered q′),
+    ((
+      sym (ap answered q′),
       rw (block-same (mediumSize N) (h .replicas) i (restoredMedium z backup) (x .media) named (done .size) size) done,
-      λ j d. block-other (mediumSize N) (h .replicas) i (restoredMedium z backup) (x .media) named (done .size) size j d))
+      λ j d. block-other (mediumSize N) (h .replicas) i (restoredMedium z backup) (x .media) named (done .size) size j d,
+    ))

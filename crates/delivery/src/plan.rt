@@ -75,10 +75,11 @@ fn target_of(c: Closing) -> Target
     match c {
         Closing::Unresolved => Target::Whole,
         Closing::Mark(m) => Target::Mark(m),
+        Closing::Restored => Target::LowWater,
     }
 }
 
-// To the closing mark of the entry handed over at take. prepare is exempt from 7.
+// To the closing mark of the entry handed over at take, or to the replica's low-water mark if that says restored. prepare is exempt from 7.
 fn plan_prepare(t: &Tables, shape: Shape, v: Server, i: usize, f: Fate, given: &Place) -> Plan
     requires { ⌜ now t ≡ tablesOf ⌝ }
     requires { ⌜ i < 7 ⌝ }

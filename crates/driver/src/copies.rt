@@ -1,4 +1,5 @@
-// The copies of a recovery: each known replica, in the order of the list, up to the highest mark known after the prepares.
+// The copies of a recovery: each known replica, a restored one too, in the order of the list, up to the highest mark that those that vote have after the
+// prepares.
 ghost use mathlib.Core.Path.{_≡_};
 ghost use mathlib.Core.List.{List};
 ghost use Prim.Native.Nat.{ℕ, _+_, _-_, _*_, _<_, _≤_, _^_};
@@ -150,7 +151,7 @@ fn copy_all(
     r
 }
 
-// Up to the highest mark known, from the first listed that has it.
+// Up to the highest mark of those that vote, from the first listed of them that has it: never from a restored one.
 pub fn catch_up(
     shape: Shape,
     g: Recovered,

@@ -1,4 +1,5 @@
-// A recovery by a driver, request No. 9: an idle server takes a session, prepares the listed replicas, copies them to one mark and opens.
+// A recovery by a driver, requests No. 9 and, of restored replicas, No. 10: an idle server takes a session, prepares the listed replicas, copies them to one
+// mark and opens.
 mod copies;
 mod prepares;
 

@@ -1,7 +1,7 @@
 -- A turn of each loop over the list of replicas, at k, and its end.
 -- Assumes nothing.
 use mathlib.Core.Path.{_≡_, sym, ap, _∙_}
-use mathlib.Core.Bool.{Bool, true, false, cond, _&&_}
+use mathlib.Core.Bool.{Bool, true, false, _&&_}
 use mathlib.Core.List.{List, _∷_}
 use Prim.Native.Nat.{ℕ, _+_, _-_, _≤_, _<_, max}
 use native.Mathlib.Numerals.{add-one}
@@ -11,8 +11,8 @@ use lib.ListN.{length, take, drop, getD, length-drop, drop-of-length-le}
 use lib.Seq.{drop-cons, take-all}
 use borrow.Author.Tests.{le-leb, lt-leb, eq-eqb, ne-eqb}
 use Rattle.cluster.specs.declared.Server.{Server}
-use Rattle.cluster.specs.State.{activeAt, markAt}
-use Rattle.recovery.specs.Recovery.{contains, repeats, notBelow, highestKnown, firstAt}
+use Rattle.cluster.specs.State.{markAt, votesAt}
+use Rattle.recovery.specs.Recovery.{contains, repeats, notBelow, voterMark, highestKnown, firstAt}
 
 -- what `&s[a..]` refers to
 pub to-end : (a : ℕ) (s : List ℕ) → take (length s - a) (drop a s) ≡ drop a s
@@ -77,7 +77,7 @@ module _ (l : List ℕ) (k : ℕ) where
 
   module _ (v : Server) where
     -- n is the mark that counts here, best the highest so far, x the higher of the two
-    pub highest-turn : (best n x : ℕ) → k < length l → n ≡ cond (activeAt v here) (markAt v here) 0 → x ≡ max best n
+    pub highest-turn : (best n x : ℕ) → k < length l → n ≡ voterMark v here → x ≡ max best n
         → max best (highestKnown v (drop k l)) ≡ max x (highestKnown v others)
     unfolding highestKnown
     highest-turn best n x h e f = rw (next h, ← e, f) (omega arith)
@@ -86,7 +86,7 @@ module _ (l : List ℕ) (k : ℕ) where
     unfolding highestKnown
     highest-end best h = rw (drop-of-length-le l h) (omega arith)
 
-    module _ (m : ℕ) (b : Bool) (q : b ≡ (activeAt v here && eqb (markAt v here) m)) where
+    module _ (m : ℕ) (b : Bool) (q : b ≡ (votesAt v here && eqb (markAt v here) m)) where
       pub first-found : k < length l → b ≡ true → here ≡ firstAt v m (drop k l)
       unfolding firstAt
       first-found h e = rw (next h, sym q ∙ e)

@@ -1,20 +1,30 @@
-// What an opening server knows after the prepares: the highest mark, and the first listed replica that has it.
+// What an opening server knows after the prepares: the highest mark of those that vote, and the first listed replica of them that has it.
 ghost use mathlib.Core.Path.{_≡_};
-ghost use mathlib.Core.Bool.{cond, _&&_};
+ghost use mathlib.Core.Bool.{_&&_};
 ghost use Prim.Native.Nat.{_<_, max};
 ghost use lib.Dec.{eqb};
-ghost use Rattle.cluster.specs.State.{activeAt, markAt};
-ghost use Rattle.recovery.specs.Recovery.{highestKnown, firstAt};
+ghost use Rattle.cluster.specs.State.{markAt, votesAt};
+ghost use Rattle.recovery.specs.Recovery.{voterMark, highestKnown, firstAt};
 ghost use Rattle.recovery.specs.Asked.{Named};
+use checks::but_not;
+use checks::vote::restored_at;
 use cluster::Server;
 use delivery::plan::is_active;
 
-// A replica's mark, 0 if it isn't known.
-fn known_mark(v: Server, i: usize) -> u64
+// A replica's mark counts: it is known, and not restored.
+fn is_voter(v: Server, i: usize) -> bool
     requires { ⌜ i < 7 ⌝ }
-    ensures { λ m. ⌜ m ≡ cond (activeAt v i) (markAt v i) 0 ⌝ }
+    ensures { λ b. ⌜ b ≡ votesAt v i ⌝ }
 {
-    if is_active(v, i) { v.marks[i] } else { 0 }
+    but_not(is_active(v, i), restored_at(v, i))
+}
+
+// A replica's mark, 0 if it doesn't vote.
+fn voter_mark(v: Server, i: usize) -> u64
+    requires { ⌜ i < 7 ⌝ }
+    ensures { λ m. ⌜ m ≡ voterMark v i ⌝ }
+{
+    if is_voter(v, i) { v.marks[i] } else { 0 }
 }
 
 fn higher(a: u64, b: u64) -> u64
@@ -30,18 +40,18 @@ pub fn highest_known(v: Server, listed: &[u64]) -> u64
     let mut best = 0;
     let mut k = 0;
     while k < listed.len() {
-        best = higher(best, known_mark(v, listed[k] as usize));
+        best = higher(best, voter_mark(v, listed[k] as usize));
         k += 1;
     }
     best
 }
 
-// Known, and exactly at the mark m.
+// A voter, and exactly at the mark m.
 fn is_at(v: Server, i: usize, m: u64) -> bool
     requires { ⌜ i < 7 ⌝ }
-    ensures { λ b. ⌜ b ≡ (activeAt v i && eqb (markAt v i) m) ⌝ }
+    ensures { λ b. ⌜ b ≡ (votesAt v i && eqb (markAt v i) m) ⌝ }
 {
-    if is_active(v, i) {
+    if is_voter(v, i) {
         v.marks[i] == m
     } else {
         false

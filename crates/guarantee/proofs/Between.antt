@@ -60,6 +60,7 @@ module _ (h : Shape) where
   told-opened x e r H (call.Export s i f) n z = refl
   told-opened x e r H (call.Stop s) n z = refl
   told-opened x e r H call.Reassign n z = refl
+  told-opened x e r H (call.Restore i) n z = refl
 
   told-reader : (x : State) (p : Input) (a b : ℕ) (r : Result) (H : History) (c : Call) → NoOpen c
       → told h x (reading a p) r H c ≡ told h x (reading b p) r H c
@@ -76,6 +77,7 @@ module _ (h : Shape) where
   told-reader x p a b r H (call.Export s i f) n = refl
   told-reader x p a b r H (call.Stop s) n = refl
   told-reader x p a b r H call.Reassign n = refl
+  told-reader x p a b r H (call.Restore i) n = refl
 
   next-opened : (m : Moment) (e : Element) → NoOpen (e .input .call) → (z : ℕ) → next h m e .history .sessions z .opened ≡ m .history .sessions z .opened
   unfolding next

@@ -3,22 +3,26 @@
 -- Assumes nothing.
 use mathlib.Core.Path.{_≡_, refl, sym, _∙_}
 use mathlib.Core.Logic.{ite}
-use mathlib.Core.Bool.{Bool, true, false, _&&_, false≢true}
+use mathlib.Core.Bool.{Bool, true, false, not, _&&_, false≢true}
 use Prim.Native.Nat.{ℕ, zero, suc, _+_, _-_, _≤_, _<_}
 use native.Mathlib.Omega.{arith}
 use lib.Dec.{leb, ltb}
-use borrow.Author.Tests.{ltb-true, leb-true, le-leb}
+use borrow.Author.Tests.{not-false, ltb-true, leb-true, le-leb}
 use Rattle.base.specs.Below.{bit, count}
 use Rattle.base.proofs.Tests.{both}
 use Rattle.quorum.specs.Vote.{quorum, reach, majorityMark, decided}
 use Rattle.quorum.proofs.Reach.{reach-zero, majority-above, majority-reached}
 use Rattle.protocol.specs.State as protocol
 use Rattle.protocol.specs.Columns.{count as tally}
-use Rattle.protocol.specs.Marks.{flagged?, above?, reaches?, Decided, Reached}
+use Rattle.protocol.specs.Marks.{flagged?, above?, reaches?, voter, Decided, Reached}
 use Rattle.protocol.specs.Events.{Can-acknowledge}
 use Rattle.protocol.proofs.Counting.{count-mono}
 use Rattle.protocol.proofs.Invariant.{Inv}
 use Rattle.protocol.proofs.Traces as traces
+use Rattle.cluster.specs.declared.Server.{Server}
+use Rattle.cluster.specs.State.{markAt, votesAt}
+use Rattle.cluster.specs.Refusals.{undecided, voteMark}
+use Rattle.guarantee.proofs.Ties.{rowOf, OpeningTie}
 
 -- a test that says what a decision says counts alike
 pub tally-is : (p : ℕ → Bool) {P : ℕ → Type 0} (d : (j : ℕ) → Dec (P j)) (n : ℕ)
@@ -58,7 +62,7 @@ module _ (R : ℕ) (flag flag′ : ℕ → Bool) (mark mark′ : ℕ → ℕ) (s
 -- of session z of the protocol
 module _ (R : ℕ) (σ : protocol.State) (z : ℕ) (r : σ .R ≡ R) (q : σ .Q ≡ quorum R) (flag : ℕ → Bool) (mark : ℕ → ℕ) where
   -- 8
-  pub decided-tie : ((j : ℕ) → j < R → flag j ≡ σ .known z j) → ((j : ℕ) → j < R → σ .known z j ≡ true → mark j ≡ σ .recorded z j)
+  pub decided-tie : ((j : ℕ) → j < R → flag j ≡ voter σ z j) → ((j : ℕ) → j < R → voter σ z j ≡ true → mark j ≡ σ .recorded z j)
       → decided flag mark R ≡ true → Decided σ z (majorityMark flag mark R)
   unfolding decided
   decided-tie same marks e =
@@ -67,7 +71,7 @@ module _ (R : ℕ) (σ : protocol.State) (z : ℕ) (r : σ .R ≡ R) (q : σ .Q 
       let b : a < quorum R = ltb-true a (quorum R) (both (leb (quorum R) (count flag R)) (ltb a (quorum R)) e .1) in
       traces.decided σ z D
       (rw (r, q)
-      (omega (arith, b, flags-tie R flag (σ .known z) mark (σ .recorded z) same marks, above-tie R flag (σ .known z) mark (σ .recorded z) same marks D)))
+      (omega (arith, b, flags-tie R flag (voter σ z) mark (σ .recorded z) same marks, above-tie R flag (voter σ z) mark (σ .recorded z) same marks D)))
 
   -- the acknowledged mark
   pub acknowledge-tie : Inv σ → σ .phase z ≡ protocol.Open
@@ -96,3 +100,10 @@ module _ (R : ℕ) (σ : protocol.State) (z : ℕ) (r : σ .R ≡ R) (q : σ .Q 
       highest n h =
           let k : quorum R ≤ tally (reaches? (σ .member z) (σ .recorded z) n) R = rw (r, q) at h in
           majority-above flag mark R n (omega (arith, I .quorum)) (omega (arith, k, tie n))
+
+-- 8, of an opening server's record
+pub vote-tie : (R : ℕ) (σ : protocol.State) (z : ℕ) → σ .R ≡ R → σ .Q ≡ quorum R → (v : Server) → OpeningTie R v (rowOf σ z)
+    → undecided R v ≡ false → Decided σ z (voteMark R v)
+vote-tie R σ z r q v T e =
+    decided-tie R σ z r q (votesAt v) (markAt v) (λ j l. cc (T .known j l, T .restored j l))
+    (λ j l p. T .recorded j l (both (σ .known z j) (not (σ .handed-restored z j)) p .0)) (not-false (decided (votesAt v) (markAt v) R) e)

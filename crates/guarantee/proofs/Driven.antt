@@ -1,4 +1,5 @@
--- The calls of a recovery, whatever state it finds: their arguments fit, and none opens a session but an open by its server, which is the last (`calls-fit`).
+-- The calls of a recovery, whatever state it finds: their arguments fit, none opens a session but an open by its server, which is the last, and none is a
+-- restore (`calls-fit`).
 -- Assumes nothing.
 use mathlib.Core.Path.{_≡_, refl, sym, ap}
 use mathlib.Core.Logic.{_⊎_, inl, inr}
@@ -24,10 +25,11 @@ use Rattle.guarantee.specs.Guarantee.{Fits}
 
 -- ================ what is shown
 
--- its arguments fit, and it is no open
+-- its arguments fit, and it is neither an open nor a restore
 pub record Quiet (p : Input) : Type 0 where
   pub fits : Fits p
   pub no-open : (s : ℕ) (f : Fate) → p .call ≡ call.Open s f → ⊥
+  pub no-restore : (i : ℕ) → p .call ≡ call.Restore i → ⊥
 
 abbrev pub AllQuiet : List Input → Type 0
 AllQuiet [] = Unit {0}
@@ -55,6 +57,7 @@ quiet-take s f =
             request = λ t q e. let z : _≡_ {A = ℕ} 0 1 = cc in absurd (omega arith);
           };
       no-open = λ t g e. let z : _≡_ {A = ℕ} 0 1 = cc in omega arith;
+      no-restore = λ j e. let z : _≡_ {A = ℕ} 0 1 = cc in omega arith;
     }
 
 quiet-prepare : (s i : ℕ) (f : Fate) (given : List ℕ) → length given ≡ placeSize → Quiet (bare (call.Prepare s i f) given)
@@ -62,6 +65,7 @@ quiet-prepare s i f given l =
     record {
       fits = record { given = λ m. l; content = tt; request = λ t q e. let z : _≡_ {A = ℕ} 0 1 = cc in absurd (omega arith) };
       no-open = λ t g e. let z : _≡_ {A = ℕ} 0 1 = cc in omega arith;
+      no-restore = λ j e. let z : _≡_ {A = ℕ} 0 1 = cc in omega arith;
     }
 
 quiet-copy : (s a b : ℕ) (f : Fate) (given : List ℕ) → length given ≡ placeSize → Quiet (bare (call.Copy s a b f) given)
@@ -69,6 +73,7 @@ quiet-copy s a b f given l =
     record {
       fits = record { given = λ m. l; content = tt; request = λ t q e. let z : _≡_ {A = ℕ} 0 1 = cc in absurd (omega arith) };
       no-open = λ t g e. let z : _≡_ {A = ℕ} 0 1 = cc in omega arith;
+      no-restore = λ j e. let z : _≡_ {A = ℕ} 0 1 = cc in omega arith;
     }
 
 pub open-fits : (s : ℕ) (f : Fate) → Fits (bare (call.Open s f) [])

@@ -21,7 +21,7 @@ use Rattle.cluster.specs.declared.Server.{Server}
 use Rattle.cluster.specs.State.{freshEntry, idleServer, noServer, entryAt, tableSize, freshMedia, fresh}
 use Rattle.guarantee.specs.History.{beginning}
 use Rattle.guarantee.specs.Guarantee.{InRange}
-use Rattle.guarantee.proofs.Ties.{Row, copyOf, ReplicaTie, ServerTie, Sim}
+use Rattle.guarantee.proofs.Ties.{Row, copyOf, ReplicaTie, ServerTie, Sim, Past}
 use Rattle.guarantee.proofs.Facts.{at-most-seven}
 
 -- ---- media
@@ -54,6 +54,7 @@ replica-tie N =
       fitting = rw (f .slot) (record { promise = lit< tt; low = lit< tt; local = lit< tt });
       promise = ap (λ (x : Slot). x .promise) (f .slot);
       mark = f .mark;
+      low = ap (λ (x : Slot). x .low) (f .slot);
       bytes = λ n lo hi. absurd (omega arith);
       whose = λ n lo hi. absurd (omega arith);
     }
@@ -92,7 +93,8 @@ fresh-tie h r =
             session = refl;
             fits = lit< tt;
             size = refl;
-            unresolved = λ i l. rw (entry-at R i seven l);
+            restored = λ i l. rw (entry-at R i seven l);
+            unresolved = λ i l u. rw (entry-at R i seven l);
             closing = λ i c l e. let q = rw (entry-at R i seven l) at e in let z : _≡_ {A = ℕ} 0 1 = cc in absurd (omega arith);
             entry = λ i l. rw (entry-at R i seven l);
           };
@@ -109,4 +111,14 @@ fresh-tie h r =
             opened = λ e. record { start = refl; logged = λ n lo hi. absurd (omega arith); beyond = λ n l. refl; acknowledged = omega arith };
             before = λ e. refl;
           };
+    }
+
+-- what the fresh cluster holds may be restored in it; the history has it for the moments that are not reached yet too
+pub fresh-past : (h : Shape) → InRange h → Past h (beginning h .history .past) (protocol.fresh (h .replicas) (quorum (h .replicas)))
+unfolding beginning fresh
+fresh-past h r k i l =
+    record {
+      copy = copyOf (protocol.fresh 0 0) 0;
+      tie = rw (media-at (h .replicas) (h .places) i l) (replica-tie (h .places));
+      can = record { session = 0; below = omega arith; «open» = refl; within = omega arith; agrees = λ n a b. refl };
     }

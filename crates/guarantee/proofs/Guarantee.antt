@@ -11,4 +11,4 @@ pub guarantee : Guarantee
 guarantee h range es a =
     let q = quorate h range in
     let w = from-fresh h range es a in
-    kept h _ _ (w .state) (w .sim) (w .inv) (safe (h .replicas) (quorum (h .replicas)) (q .0) (q .1) (w .steps))
+    kept h _ _ (w .state) (w .tied .sim) (w .inv) (safe (h .replicas) (quorum (h .replicas)) (q .0) (q .1) (w .steps))

@@ -56,4 +56,4 @@ module _ (h : Shape) (x : State) (H : History) (σ : protocol.State) (S : Sim h 
       )
 
 pub in-flight : InFlight
-in-flight h range es a = let w = from-fresh h range es a in holding h _ _ (w .state) (w .sim) (w .inv)
+in-flight h range es a = let w = from-fresh h range es a in holding h _ _ (w .state) (w .tied .sim) (w .inv)

@@ -9,8 +9,6 @@ use Prim.Native.Nat.{ℕ, _+_, _≤_, _<_}
 use native.Mathlib.Omega.{arith}
 use Rattle.protocol.specs.State as protocol
 use Rattle.protocol.proofs.Invariant.{Inv}
-use Rattle.segment.specs.declared.header.Stamp.{Stamp}
-use Rattle.segment.specs.Pair.{Files}
 use Rattle.cluster.specs.declared.Shape.{Shape}
 use Rattle.cluster.specs.declared.Request.{Request}
 use Rattle.cluster.specs.declared.Call.the-variants as call
@@ -21,7 +19,7 @@ use Rattle.cluster.specs.Effects.{issueEffect}
 use Rattle.cluster.specs.Step.{effect, unless, step}
 use Rattle.cluster.proofs.Numbers.{ok-passes}
 use Rattle.cluster.proofs.Checkpoint.{within-interval}
-use Rattle.guarantee.specs.History.{Element, History, beginning, along}
+use Rattle.guarantee.specs.History.{Element, History, withCall, beginning, along}
 use Rattle.guarantee.specs.Guarantee.{InRange, CoveredAll}
 use Rattle.guarantee.proofs.Ties.{Sim}
 use Rattle.guarantee.proofs.Facts.{open-lives}
@@ -33,8 +31,7 @@ use Rattle.guarantee.proofs.Along.{from-fresh}
 -- an issue call made in state x after history H, and the ID that it answers
 abbrev pub Within : Shape → State → History → Type 0
 Within h x H =
-    (s n : ℕ) (q : Request) (content locks given : List ℕ) (stamp : Stamp) (files : Files) (vs : List ℕ)
-    → step h x (record { call = call.Issue s q; content = content; locks = locks; given = given; stamp = stamp; files = files }) .reply ≡ ok (n ∷ vs)
+    (s n : ℕ) (q : Request) (arguments : Input) (vs : List ℕ) → step h x (withCall (call.Issue s q) arguments) .reply ≡ ok (n ∷ vs)
     → let start = H .sessions (H .current s) .start in
     (start < n) × (n ≤ start + h .interval)
 
@@ -47,8 +44,8 @@ Interval = (h : Shape) → InRange h → (es : List Element) → CoveredAll h (b
 module _ (h : Shape) (x : State) (H : History) (σ : protocol.State) (S : Sim h x H σ) (I : Inv σ) where
   within : Within h x H
   unfolding step unless issueEffect
-  within s n q content locks given stamp files vs r =
-      let p : Input = record { call = call.Issue s q; content = content; locks = locks; given = given; stamp = stamp; files = files } in
+  within s n q a vs r =
+      let p : Input = withCall (call.Issue s q) a in
       let all = ok-passes (rowsOf h x p) x (effect h x p (p .call)) (n ∷ vs) r in
       let P = passed h x p all in
       let v = serverAt (x .records) s in
@@ -60,8 +57,8 @@ module _ (h : Shape) (x : State) (H : History) (σ : protocol.State) (S : Sim h 
       ap (λ (t : ℕ). H .sessions t .start) (T .current (open-lives v o)) ∙ told .start in
       let next : v .issued + 1 ≡ n = cc (rw all at r) in (
         omega (arith, start, next, T .serving o .issued, I .chain .filled (v .session) live),
-        omega (arith, start, T .serving o .start, within-interval h x s q content locks given stamp files n vs r),
+        omega (arith, start, T .serving o .start, within-interval h x s q (a .content) (a .locks) (a .given) (a .stamp) (a .files) (a .backup) n vs r),
       )
 
 pub interval : Interval
-interval h range es a = let w = from-fresh h range es a in within h _ _ (w .state) (w .sim) (w .inv)
+interval h range es a = let w = from-fresh h range es a in within h _ _ (w .state) (w .tied .sim) (w .inv)

@@ -2,6 +2,7 @@
 --
 -- A state of the cluster with the history of its calls is tied to a state of the protocol (Ties). Each call that is not declined is a short list of
 -- the protocol's events, whatever its fate, and the tie holds again after it (calls/, a file for each). So the protocol's guarantee is the cluster's.
+-- Beside the tie goes what a restore needs: at each moment so far every replica held something that may be restored now (Ties `Past`).
 --
 --   Guarantee   the theorem
 --   Along       a call is declined or a list of events; so a list of calls is a list of events
@@ -17,17 +18,19 @@
 --   Facts       what several calls read off the tie and the invariant
 --   Counts      the counts of the two agree: decided, acknowledged
 --   Blocks      media and lock tables in their slices
---   Media       a medium whose log stayed, became shorter or got a record; Operations: after each storage operation, under each fate
+--   Media       a medium whose log stayed, became shorter or got a record; Operations: after each storage operation, under each fate; Restoring: after a
+--               restore
 --   Messages    a message to a replica that is not declined; Records: the server's record after it; Hearing: a server that hears or forgets;
 --               Looking: a message that only reads
 --   Standing    send and copy: whose records then stand there; Appending: what an open server acknowledges after one
 --   Sessions    a session after an issue, and after what it acknowledges
 --   Registers   the register that an open leaves; Opening: what an open finds; Opened: what it leaves
+--   Remembering what no call changes in a history: the count and the moments before it
 --
--- Beside the theorem: Readable, every list of calls that fit is one of its lists; Whole, what it comes to for two sessions; Once, nothing in a history
--- is written over; Interval, a session issues K IDs at most; InFlight, what a server holds is what its session issued; Readers, whoever is declined by 15
--- has something left to read or to wait for; Running, the states that the running calls leave are those of the list. The crate guarantee_example works
--- four lists out.
+-- Beside the theorem: Readable, every list of calls that fit, with restores of bytes that stood, is one of its lists; Whole, what it comes to for two
+-- sessions; Once, of sessions nothing is written over; Interval, a session issues K IDs at most; InFlight, what a server holds is what its session issued;
+-- Readers, whoever is declined by 15 has something left to read or to wait for; Running, the states that the running calls leave are those of the list. The
+-- crate guarantee_example works five lists out.
 --
 -- Over lists with recoveries (specs/Recoveries.antt):
 --   Recoveries  the theorem: a list of items is a list of calls that are covered, so what is shown of lists of calls holds of lists of items
@@ -54,6 +57,8 @@ pub mod Registers
 pub mod Facts
 pub mod Fresh
 pub mod Conclusions
+pub mod Remembering
+pub mod Restoring
 pub mod Played
 pub mod Opening
 pub mod Opened

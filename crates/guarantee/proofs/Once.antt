@@ -1,4 +1,4 @@
--- NOTHING IN A HISTORY IS WRITTEN OVER: a session is opened once, with nothing issued in it before, and it issues an ID once: `once`.
+-- OF SESSIONS NOTHING IS WRITTEN OVER: one is opened once, with nothing issued in it before, and it issues an ID once: `once`.
 -- The statement comes first, then its proof.
 -- Assumes nothing.
 use mathlib.Core.Path.{_≡_, refl, sym, ap, _∙_}
@@ -12,8 +12,6 @@ use Rattle.fate.specs.declared.Fate.{Fate}
 use Rattle.protocol.specs.State as protocol
 use Rattle.protocol.proofs.Invariant.{Inv}
 use Rattle.protocol.proofs.Facts.{unopened}
-use Rattle.segment.specs.declared.header.Stamp.{Stamp}
-use Rattle.segment.specs.Pair.{Files}
 use Rattle.cluster.specs.declared.Shape.{Shape}
 use Rattle.cluster.specs.declared.Request.{Request}
 use Rattle.cluster.specs.declared.Call.the-variants as call
@@ -23,7 +21,7 @@ use Rattle.cluster.specs.Replies.{ok}
 use Rattle.cluster.specs.Effects.{Result, issueEffect}
 use Rattle.cluster.specs.Step.{step}
 use Rattle.guarantee.specs.Registers.{changed}
-use Rattle.guarantee.specs.History.{Element, History, beginning, along, unopened as new-session}
+use Rattle.guarantee.specs.History.{Element, History, withCall, beginning, along, unopened as new-session}
 use Rattle.guarantee.specs.Guarantee.{InRange, CoveredAll}
 use Rattle.guarantee.proofs.Ties.{Sim}
 use Rattle.guarantee.proofs.Facts.{opening-lives, open-lives}
@@ -49,12 +47,12 @@ Once = (h : Shape) → InRange h → (es : List Element) → CoveredAll h (begin
 
 -- ================ its proof
 
-module _ (h : Shape) (x : State) (H : History) (σ : protocol.State) (S : Sim h x H σ) (I : Inv σ) (content locks given : List ℕ) (stamp : Stamp) (files : Files) (s : ℕ) where
+module _ (h : Shape) (x : State) (H : History) (σ : protocol.State) (S : Sim h x H σ) (I : Inv σ) (p : Input) (s : ℕ) where
   abbrev open-call : Fate → Input
-  open-call f = record { call = call.Open s f; content = content; locks = locks; given = given; stamp = stamp; files = files }
+  open-call f = withCall (call.Open s f) p
 
   abbrev issue-call : Request → Input
-  issue-call q = record { call = call.Issue s q; content = content; locks = locks; given = given; stamp = stamp; files = files }
+  issue-call q = withCall (call.Issue s q) p
 
   unopened-yet : (f : Fate) → Passes h x (open-call f) → H .sessions (H .current s) ≡ new-session
   unopened-yet f q =
@@ -106,18 +104,18 @@ module _ (h : Shape) (x : State) (H : History) (σ : protocol.State) (S : Sim h 
 pub new : (h : Shape) (x : State) (H : History) (σ : protocol.State) → Sim h x H σ → Inv σ → (p : Input) → New h x H p
 new h x H σ S I p =
     record {
-      opens = λ s f e c. opened-once h x H σ S I (p .content) (p .locks) (p .given) (p .stamp) (p .files) s f (as-open s f e c);
-      issues = λ s n q vs e r. issued-once h x H σ S I (p .content) (p .locks) (p .given) (p .stamp) (p .files) s q n vs (as-issue s n q vs e r);
+      opens = λ s f e c. opened-once h x H σ S I p s f (as-open s f e c);
+      issues = λ s n q vs e r. issued-once h x H σ S I p s q n vs (as-issue s n q vs e r);
     }
   where
     as-open : (s : ℕ) (f : Fate) → p .call ≡ call.Open s f → changed (x .records .register) (step h x p .state .records .register) ≡ true
         → changed (x .records .register)
-        (step h x (record { call = call.Open s f; content = p .content; locks = p .locks; given = p .given; stamp = p .stamp; files = p .files }) .state .records .register) ≡ true
+        (step h x (withCall (call.Open s f) p) .state .records .register) ≡ true
     as-open s f e c = rw (← e) c
 
     as-issue : (s n : ℕ) (q : Request) (vs : List ℕ) → p .call ≡ call.Issue s q → step h x p .reply ≡ ok (n ∷ vs)
-        → step h x (record { call = call.Issue s q; content = p .content; locks = p .locks; given = p .given; stamp = p .stamp; files = p .files }) .reply ≡ ok (n ∷ vs)
+        → step h x (withCall (call.Issue s q) p) .reply ≡ ok (n ∷ vs)
     as-issue s n q vs e r = rw (← e) r
 
 pub once : Once
-once h range es a p = let w = from-fresh h range es a in new h _ _ (w .state) (w .sim) (w .inv) p
+once h range es a p = let w = from-fresh h range es a in new h _ _ (w .state) (w .tied .sim) (w .inv) p

@@ -60,9 +60,9 @@ module _ (h : Shape) (x : State) (H : History) (σ : protocol.State) (S : Sim h 
   can : Can-open σ z D a
   can = F .can same a la ca
 
-  register : RegisterTie R (openedRegister R g v (voteMark R v)) (τ .session) (τ .unresolved) (τ .closing) (τ .opened)
+  register : RegisterTie R (openedRegister R g v (voteMark R v)) (τ .session) (τ .unresolved) (τ .closing) (τ .restored) (τ .opened)
   register =
-      opened-tie R g v (F .room) (σ .session) (σ .unresolved) (σ .closing) (σ .opened) (S .register) (clean σ z D) (F .cleans)
+      opened-tie R g v (F .room) (σ .session) (σ .unresolved) (σ .closing) (σ .restored) (σ .opened) (S .register) (clean σ z D) (F .cleans)
 
   -- ---- the rows
 

@@ -3,7 +3,6 @@
 use mathlib.Core.Path.{_≡_, refl, sym, ap, _∙_}
 use mathlib.Core.Logic.{_≢_}
 use mathlib.Core.Bool.{Bool, true, false, _&&_, true≢false}
-use mathlib.Core.List.{List}
 use Prim.Native.Nat.{ℕ, _≤_, _<_}
 use native.Mathlib.Omega.{arith}
 use lib.ListN.{length}
@@ -18,8 +17,6 @@ use Rattle.protocol.specs.Marks.{flagged?, clean}
 use Rattle.protocol.specs.Events.{Can-open}
 use Rattle.protocol.proofs.Counting.{count-some}
 use Rattle.protocol.proofs.Facts.{unopened}
-use Rattle.segment.specs.declared.header.Stamp.{Stamp}
-use Rattle.segment.specs.Pair.{Files}
 use Rattle.cluster.specs.declared.Shape.{Shape}
 use Rattle.cluster.specs.declared.Register.{Register}
 use Rattle.cluster.specs.declared.Server.{Server}
@@ -28,10 +25,10 @@ use Rattle.cluster.specs.State.{State, serverAt, entryAt, markAt, activeAt}
 use Rattle.cluster.specs.Refusals.{voteMark, cleanAt, sessionDiffers}
 use Rattle.cluster.specs.Effects.{openedRegister}
 use Rattle.guarantee.specs.Registers.{changed}
-use Rattle.guarantee.specs.History.{History}
+use Rattle.guarantee.specs.History.{Element, History}
 use Rattle.guarantee.proofs.Ties.{rowOf, OpeningTie, Sim}
 use Rattle.guarantee.proofs.Passing.{below-four, is-opening}
-use Rattle.guarantee.proofs.Counts.{tally-is, decided-tie}
+use Rattle.guarantee.proofs.Counts.{tally-is, vote-tie}
 use Rattle.guarantee.proofs.Registers.{changes, entry-set, entry-kept}
 use Rattle.guarantee.proofs.Facts.{at-most-seven}
 use Rattle.guarantee.proofs.Played.{with-call, Before}
@@ -59,8 +56,8 @@ same-clean : (a b : Bool) (m k D : ℕ) → a ≡ b → (b ≡ true → m ≡ k)
 same-clean a true m k D e f = rw (e, f refl)
 same-clean a false m k D e f = rw e
 
-module _ (h : Shape) (x : State) (H : History) (σ : protocol.State) (content locks given : List ℕ) (stamp : Stamp) (files : Files) (reader s : ℕ) (f : Fate)
-    (B : Before h x H σ (with-call (call.Open s f) content locks given stamp files reader)) where
+module _ (h : Shape) (x : State) (H : History) (σ : protocol.State) (beside : Element) (s : ℕ) (f : Fate)
+    (B : Before h x H σ (with-call (call.Open s f) beside)) where
   S : Sim h x H σ
   S = B .sim
 
@@ -129,9 +126,7 @@ module _ (h : Shape) (x : State) (H : History) (σ : protocol.State) (content lo
       record {
         phase = row .phase;
         session = sym (S .register .session) ∙ eqb-true (g .session) z (not-false (eqb (g .session) z) same);
-        decided =
-            decided-tie R σ z (S .R) (S .Q) (activeAt v) (markAt v) (row .known) (row .recorded)
-            (not-false (decided (activeAt v) (markAt v) R) (B .passed 8));
+        decided = vote-tie R σ z (S .R) (S .Q) v row (B .passed 8);
         quorum = quorate;
         clean-a = sym (cleans a la) ∙ ca;
       }

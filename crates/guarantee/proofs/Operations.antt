@@ -18,7 +18,7 @@ use Rattle.fate.specs.Fates.{Write, allOf, after}
 use Rattle.fate.specs.Numbered.{effectOf}
 use Rattle.storage.specs.declared.slot.Slot.{Slot}
 use Rattle.storage.specs.declared.operation.Target.{Target}
-use Rattle.storage.specs.declared.operation.Target.the-variants.{Whole, Mark}
+use Rattle.storage.specs.declared.operation.Target.the-variants.{Whole, Mark, LowWater}
 use Rattle.storage.specs.Places.{validPlace}
 use Rattle.storage.specs.Slots.{storedSlot, FittingSlot}
 use Rattle.storage.specs.Log.{logOf, markOf, Sound}
@@ -50,11 +50,18 @@ module _ (N : ℕ) (f : Fate) (g m : List ℕ) (standing : ℕ → Option Transa
   pub noted-mark : markOf N (after f g (noteWrites low local m) m) ≡ markOf N m
   noted-mark = mark-is N noted ∙ ap length (kept .log) ∙ sym (mark-is N m)
 
+  -- the slot stayed, or it has the new low-water mark
   pub noted-tie : ReplicaTie N (after f g (noteWrites low local m) m) standing c
+      ⊎ ReplicaTie N (after f g (noteWrites low local m) m) standing (record { promise = c .promise; mark = c .mark; place = c .place; low = low })
   noted-tie =
-      same-tie N m noted standing c T (kept .log) (kept .sound) (kept .valid)
-      (⊎-elim (λ e. rw e fits) (λ e. rw e (T .fitting)) (kept .slot))
-      (⊎-elim (ap (λ (y : Slot). y .promise)) (ap (λ (y : Slot). y .promise)) (kept .slot))
+      ⊎-elim
+      (λ e.
+      inr (same-tie N m noted standing c T (kept .log) (kept .sound) (kept .valid) (rw e fits) low
+      (ap (λ (y : Slot). y .promise) e) (ap (λ (y : Slot). y .low) e)))
+      (λ e.
+      inl (same-tie N m noted standing c T (kept .log) (kept .sound) (kept .valid) (rw e (T .fitting)) (c .low)
+      (ap (λ (y : Slot). y .promise) e) (ap (λ (y : Slot). y .low) e ∙ T .low)))
+      (kept .slot)
 
 -- ================ trim
 
@@ -64,12 +71,12 @@ module _ (N : ℕ) (f : Fate) (g m : List ℕ) (standing : ℕ → Option Transa
   trimmed = trims N f g m (T .sound) h t
 
   pub trimmed-tie : ReplicaTie N (after f g (trimWrites N t m) m) standing
-      (record { promise = c .promise; mark = trimmed .shortened .upto; place = c .place })
+      (record { promise = c .promise; mark = trimmed .shortened .upto; place = c .place; low = c .low })
   trimmed-tie =
       let a = trimmed .shortened in
       let k = trimmed .slots in
       part-tie N (a .upto) m _ (a .within) (a .log) standing c T (a .sound) (λ z. T .valid (sym (k .current) ∙ z)) (rw (k .slot) (T .fitting))
-      (c .promise) (ap (λ (y : Slot). y .promise) (k .slot) ∙ T .promise)
+      (c .promise) (c .low) (ap (λ (y : Slot). y .promise) (k .slot) ∙ T .promise) (ap (λ (y : Slot). y .low) (k .slot) ∙ T .low)
 
 -- ================ prepare
 
@@ -77,10 +84,9 @@ after-answered : (g : List ℕ) (ws : List Write) (m : List ℕ) → after Answe
 unfolding after
 after-answered g ws m = refl
 
--- what a complete truncation leaves is the log up to the closing mark
-closed-part : (N : ℕ) (m : List ℕ) (to : Target) → closedBy to (logOf N m) ≡ take (closedMark to (markOf N m)) (logOf N m)
-closed-part N m Whole = sym (ap (λ (n : ℕ). take n (logOf N m)) (mark-is N m) ∙ take-length (logOf N m))
-closed-part N m (Mark t) = go (decLe t (markOf N m))
+-- what a complete truncation leaves is the log up to the mark that it truncates to
+part-of : (N t : ℕ) (m : List ℕ) → take t (logOf N m) ≡ take (min t (markOf N m)) (logOf N m)
+part-of N t m = go (decLe t (markOf N m))
   where
     go : Dec (t ≤ markOf N m) → take t (logOf N m) ≡ take (min t (markOf N m)) (logOf N m)
     go (yes l) = let e : t ≡ min t (markOf N m) = omega arith in ap (λ (n : ℕ). take n (logOf N m)) e
@@ -89,9 +95,15 @@ closed-part N m (Mark t) = go (decLe t (markOf N m))
         take-all t (logOf N m) (omega (arith, mark-is N m))
         ∙ sym (ap (λ (n : ℕ). take n (logOf N m)) (e ∙ mark-is N m) ∙ take-length (logOf N m))
 
-pub closed-le : (to : Target) (n : ℕ) → closedMark to n ≤ n
-closed-le Whole n = omega arith
-closed-le (Mark t) n = omega arith
+closed-part : (N low : ℕ) (m : List ℕ) (to : Target) → closedBy low to (logOf N m) ≡ take (closedMark low to (markOf N m)) (logOf N m)
+closed-part N low m Whole = sym (ap (λ (n : ℕ). take n (logOf N m)) (mark-is N m) ∙ take-length (logOf N m))
+closed-part N low m (Mark t) = part-of N t m
+closed-part N low m LowWater = part-of N low m
+
+pub closed-le : (low : ℕ) (to : Target) (n : ℕ) → closedMark low to n ≤ n
+closed-le low Whole n = omega arith
+closed-le low (Mark t) n = omega arith
+closed-le low LowWater n = omega arith
 
 module _ (N : ℕ) (f : Fate) (g m : List ℕ) (standing : ℕ → Option Transaction) (c : Copy) (T : ReplicaTie N m standing c) (h : Harmless N f g)
     (p : ℕ) (to : Target) (le : storedSlot m .promise ≤ p) (w : p < 2 ^ 64) where
@@ -107,35 +119,37 @@ module _ (N : ℕ) (f : Fate) (g m : List ℕ) (standing : ℕ → Option Transa
   -- the promise was written, and the log wiped down to k
   pub record Wiped : Type 0 where
     pub upto : ℕ
-    pub reaches : closedMark to (c .mark) ≤ upto
+    pub reaches : closedMark (c .low) to (c .mark) ≤ upto
     pub down : upto ≤ c .mark
-    pub tie : ReplicaTie N (after f g (prepareWrites N p to m) m) standing (record { promise = p; mark = upto; place = c .place })
+    pub tie : ReplicaTie N (after f g (prepareWrites N p to m) m) standing (record { promise = p; mark = upto; place = c .place; low = c .low })
 
   -- nothing was written yet, or the promise was
   pub prepared-tie : ReplicaTie N (after f g (prepareWrites N p to m) m) standing c ⊎ Wiped
   prepared-tie =
       ⊎-elim
-      (λ e. inl (same-tie N m prepared standing c T (e .1) (done .sound) (done .valid) (rw (e .0) (T .fitting)) (ap (λ (y : Slot). y .promise) (e .0))))
+      (λ e.
+      inl (same-tie N m prepared standing c T (e .1) (done .sound) (done .valid) (rw (e .0) (T .fitting)) (c .low)
+      (ap (λ (y : Slot). y .promise) (e .0)) (ap (λ (y : Slot). y .low) (e .0) ∙ T .low)))
       (λ e.
       inr (record {
         upto = e .1 .upto;
-        reaches = rw (T .mark) at (e .1 .reaches);
+        reaches = rw (T .mark, T .low) at (e .1 .reaches);
         down = omega (arith, e .1 .within, T .mark);
         tie =
-            part-tie N (e .1 .upto) m prepared (e .1 .within) (e .1 .log) standing c T (done .sound) (done .valid) (new-slot (e .0)) p
-            (ap (λ (y : Slot). y .promise) (e .0));
+            part-tie N (e .1 .upto) m prepared (e .1 .within) (e .1 .log) standing c T (done .sound) (done .valid) (new-slot (e .0)) p (c .low)
+            (ap (λ (y : Slot). y .promise) (e .0)) (ap (λ (y : Slot). y .low) (e .0) ∙ T .low);
       }))
       (done .stage)
 
   -- the whole of it
   pub answered-tie : f ≡ Answered
-      → ReplicaTie N (after f g (prepareWrites N p to m) m) standing (record { promise = p; mark = closedMark to (c .mark); place = c .place })
+      → ReplicaTie N (after f g (prepareWrites N p to m) m) standing (record { promise = p; mark = closedMark (c .low) to (c .mark); place = c .place; low = c .low })
   answered-tie a =
       let all : after f g (prepareWrites N p to m) m ≡ allOf (prepareWrites N p to m) m = rw a (after-answered g (prepareWrites N p to m) m) in
       let z : Closed N p to m prepared = rw all (prepares-all N p to m (T .sound) (T .valid) (T .fitting) le w) in
-      let e : logOf N prepared ≡ take (closedMark to (c .mark)) (logOf N m) = rw (← (T .mark)) (z .log ∙ closed-part N m to) in
-      part-tie N (closedMark to (c .mark)) m prepared (omega (arith, closed-le to (c .mark), T .mark)) e standing c T (done .sound) (done .valid)
-      (new-slot (z .slot)) p (ap (λ (y : Slot). y .promise) (z .slot))
+      let e : logOf N prepared ≡ take (closedMark (c .low) to (c .mark)) (logOf N m) = rw (← (T .mark), ← (T .low)) (z .log ∙ closed-part N (storedSlot m .low) m to) in
+      part-tie N (closedMark (c .low) to (c .mark)) m prepared (omega (arith, closed-le (c .low) to (c .mark), T .mark)) e standing c T (done .sound) (done .valid)
+      (new-slot (z .slot)) p (c .low) (ap (λ (y : Slot). y .promise) (z .slot)) (ap (λ (y : Slot). y .low) (z .slot) ∙ T .low)
 
 -- ================ append
 
@@ -170,7 +184,7 @@ module _ (N : ℕ) (f : Fate) (g m : List ℕ) (standing : ℕ → Option Transa
       stayed x q d l = (
         λ a. d (sym q ∙ effect-answered f a),
         same-tie N m appended standing c T l (written .sound) (λ z. T .valid (sym (written .slots .current) ∙ z)) (rw (written .slots .slot) (T .fitting))
-            (ap (λ (y : Slot). y .promise) (written .slots .slot)),
+            (c .low) (ap (λ (y : Slot). y .promise) (written .slots .slot)) (ap (λ (y : Slot). y .low) (written .slots .slot) ∙ T .low),
       )
 
       go : (x : Left) → effectOf f 1 ≡ x → ((f ≡ Answered → ⊥) × ReplicaTie N appended standing c) ⊎ Grown N bs m appended

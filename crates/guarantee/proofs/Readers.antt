@@ -13,8 +13,6 @@ use Prim.Native.Nat.{ℕ, _+_, _≤_, _<_}
 use native.Mathlib.Omega.{arith}
 use borrow.Author.Tests.{leb-false}
 use Rattle.protocol.specs.State as protocol
-use Rattle.segment.specs.declared.header.Stamp.{Stamp}
-use Rattle.segment.specs.Pair.{Files}
 use Rattle.cluster.specs.declared.Shape.{Shape}
 use Rattle.cluster.specs.declared.Request.{Request}
 use Rattle.cluster.specs.declared.Call.the-variants as call
@@ -25,7 +23,7 @@ use Rattle.cluster.specs.Step.{step}
 use Rattle.cluster.proofs.Rows.{passed}
 use Rattle.cluster.proofs.Numbers.{until}
 use Rattle.cluster.proofs.Locked.{locked-exactly}
-use Rattle.guarantee.specs.History.{Element, History, beginning, along}
+use Rattle.guarantee.specs.History.{Element, History, withCall, beginning, along}
 use Rattle.guarantee.specs.Guarantee.{InRange, CoveredAll}
 use Rattle.guarantee.proofs.Ties.{Sim}
 use Rattle.guarantee.proofs.Passing.{below-four, is-open}
@@ -34,32 +32,32 @@ use Rattle.guarantee.proofs.Along.{from-fresh}
 -- ================ the statement
 
 -- what an issue to server s replies in state x
-abbrev replied : Shape → State → ℕ → Request → (content locks given : List ℕ) → Stamp → Files → Reply
-replied h x s q content locks given stamp files = step h x (record { call = call.Issue s q; content = content; locks = locks; given = given; stamp = stamp; files = files }) .reply
+abbrev replied : Shape → State → ℕ → Request → Input → Reply
+replied h x s q arguments = step h x (withCall (call.Issue s q) arguments) .reply
 
 -- what is given with 15 is a lock, and an ID above the client's mark and at most the server's issued mark; fewer than eight are unacknowledged
 abbrev pub Unread : Shape → State → Type 0
 Unread h x =
-    (s : ℕ) (q : Request) (content locks given : List ℕ) (stamp : Stamp) (files : Files) (values : List ℕ)
-    → replied h x s q content locks given stamp files ≡ no 15 values
+    (s : ℕ) (q : Request) (arguments : Input) (values : List ℕ)
+    → replied h x s q arguments ≡ no 15 values
     → let v = serverAt (x .records) s in
     (k : ℕ) × (e : ℕ) × (values ≡ k ∷ e ∷ []) × (q .mark < e) × (e ≤ v .issued) × (v .issued < v .acked + window)
 
 -- a client that has read all that is acknowledged: what is given with 15 is in flight
 abbrev pub Waiting : Shape → State → Type 0
 Waiting h x =
-    (s : ℕ) (q : Request) (content locks given : List ℕ) (stamp : Stamp) (files : Files) (values : List ℕ)
+    (s : ℕ) (q : Request) (arguments : Input) (values : List ℕ)
     → let v = serverAt (x .records) s in
     v .acked ≤ q .mark
-    → replied h x s q content locks given stamp files ≡ no 15 values
+    → replied h x s q arguments ≡ no 15 values
     → (k : ℕ) × (e : ℕ) × (values ≡ k ∷ e ∷ []) × (v .acked < e) × (e ≤ v .issued)
 
 -- a client that has read all that is issued is not declined by 15
 abbrev pub Unlocked : Shape → State → Type 0
 Unlocked h x =
-    (s : ℕ) (q : Request) (content locks given : List ℕ) (stamp : Stamp) (files : Files) (values : List ℕ)
+    (s : ℕ) (q : Request) (arguments : Input) (values : List ℕ)
     → serverAt (x .records) s .issued ≤ q .mark
-    → ¬ (replied h x s q content locks given stamp files ≡ no 15 values)
+    → ¬ (replied h x s q arguments ≡ no 15 values)
 
 abbrev pub Readers : Type 0
 Readers = (h : Shape) → InRange h → (es : List Element) → CoveredAll h (beginning h) es
@@ -71,9 +69,9 @@ Readers = (h : Shape) → InRange h → (es : List Element) → CoveredAll h (be
 -- no estimate is above what is issued, and 13 comes before 15
 unread : (h : Shape) (x : State) (H : History) (σ : protocol.State) → Sim h x H σ → Unread h x
 unfolding until
-unread h x H σ S s q content locks given stamp files values r =
-    let p : Input = record { call = call.Issue s q; content = content; locks = locks; given = given; stamp = stamp; files = files } in
-    let d = locked-exactly h x s q content locks given stamp files values .0 r in
+unread h x H σ S s q a values r =
+    let p : Input = withCall (call.Issue s q) a in
+    let d = locked-exactly h x s q (a .content) (a .locks) (a .given) (a .stamp) (a .files) (a .backup) values .0 r in
     let none = passed (until 15 (rowsOf h x p)) (d .0) in
     let v = serverAt (x .records) s in
     let row = S .servers .each s (below-four s (none 3)) .serving (is-open (v .phase) (none 5)) in
@@ -88,17 +86,17 @@ unread h x H σ S s q content locks given stamp files values r =
     )
 
 waiting : (h : Shape) (x : State) → Unread h x → Waiting h x
-waiting h x u s q content locks given stamp files values read r =
-    let b = u s q content locks given stamp files values r in
+waiting h x u s q arguments values read r =
+    let b = u s q arguments values r in
     (b .0, b .1, b .2, omega (arith, read, b .3), b .4)
 
 unlocked : (h : Shape) (x : State) → Unread h x → Unlocked h x
-unlocked h x u s q content locks given stamp files values read r =
-    let b = u s q content locks given stamp files values r in
+unlocked h x u s q arguments values read r =
+    let b = u s q arguments values r in
     omega (arith, read, b .3, b .4)
 
 pub readers : Readers
 readers h range es a =
     let w = from-fresh h range es a in
-    let u = unread h _ _ (w .state) (w .sim) in
+    let u = unread h _ _ (w .state) (w .tied .sim) in
     (u, waiting h _ u, unlocked h _ u)

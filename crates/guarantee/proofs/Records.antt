@@ -36,6 +36,7 @@ row-heard ρ known recorded =
       phase = ρ .phase;
       handed-unresolved = ρ .handed-unresolved;
       handed-closing = ρ .handed-closing;
+      handed-restored = ρ .handed-restored;
       known = known;
       recorded = recorded;
       member = ρ .member;
@@ -63,6 +64,7 @@ module _ (R : ℕ) (v : Server) (i : ℕ) (few : R ≤ 7) (l : i < R) (z : Sized
     opening-after =
         record {
           phase = T .phase;
+          restored = T .restored;
           unresolved = T .unresolved;
           closing = T .closing;
           known = λ j b. active j b (ℕ-discrete i j);

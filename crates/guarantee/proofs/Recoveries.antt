@@ -8,6 +8,7 @@ use mathlib.Core.Logic.{_⊎_, inl, inr}
 use mathlib.Core.Bool.{true, false}
 use mathlib.Core.List.{List, [], _∷_, _++_, map}
 use Prim.Native.Nat.{ℕ, _<_}
+use native.Mathlib.Omega.{arith}
 use Rattle.fate.specs.declared.Fate.{Fate}
 use Rattle.quorum.specs.Vote.{quorum}
 use Rattle.protocol.specs.State as protocol
@@ -49,7 +50,7 @@ covered-then h m (e ∷ es) fs a b = (a .0, covered-then h (next h m e) es fs (a
 pub quiet-covered : (h : Shape) (ps : List Input) → AllQuiet ps → (m : Moment) (a : ℕ) → CoveredAll h m (map (reading a) ps)
 quiet-covered h [] q m a = tt
 quiet-covered h (p ∷ ps) q m a = (
-  record { fits = q .0 .fits; reads = λ s f e c. absurd (q .0 .no-open s f e) },
+  record { fits = q .0 .fits; reads = λ s f e c. absurd (q .0 .no-open s f e); restores = λ i e c. absurd (q .0 .no-restore i e) },
   quiet-covered h ps (q .1) (next h m (reading a p)) a,
 )
 
@@ -64,8 +65,8 @@ module _ (h : Shape) (range : InRange h) where
 
   pub go-on : (m : Moment) → FromFresh h m → (es : List Element) → CoveredAll h m es → FromFresh h (along h m es)
   go-on m w es a =
-      let n = all-calls h range es m _ (w .state) (w .steps) I (w .sim) a in
-      record { state = n .0; steps = n .1; inv = steps-inv (n .1) I; sim = n .2 }
+      let n = all-calls h range es m _ (w .state) (w .steps) I (w .tied) a in
+      record { state = n .0; steps = n .1; inv = steps-inv (n .1) I; tied = n .2 }
 
   pub at-first : FromFresh h (beginning h)
   unfolding along
@@ -78,7 +79,12 @@ module _ (h : Shape) (range : InRange h) where
         let o = reading a (bare (call.Open (d .server) f) []) in
         ReadBy h m (next h b o) (d .server) a → Covered h b o
     unfolding next
-    open-covered ps f q r = record { fits = open-fits (d .server) f; reads = λ s g e c. reads s g e c }
+    open-covered ps f q r =
+        record {
+          fits = open-fits (d .server) f;
+          reads = λ s g e c. reads s g e c;
+          restores = λ i e c. let z : _≡_ {A = ℕ} 0 1 = cc in absurd (omega arith);
+        }
       where
         reads : (s : ℕ) (g : Fate) → call.Open (d .server) f ≡ call.Open s g
             → let b = along h m (map (reading a) ps) in
@@ -89,7 +95,7 @@ module _ (h : Shape) (range : InRange h) where
             let k = next h b (reading a (bare (call.Open (d .server) f) [])) in
             let v = go-on m w (map (reading a) ps) (quiet-covered h ps q m a) in
             let z = b .history .current (d .server) in
-            let once = new h (b .state) (b .history) (v .state) (v .sim) (v .inv) (bare (call.Open (d .server) f) []) in
+            let once = new h (b .state) (b .history) (v .state) (v .tied .sim) (v .inv) (bare (call.Open (d .server) f) []) in
             let unopened = ap (λ (t : Session). t .opened) (once .opens (d .server) f refl c) in
             let before : m .history .sessions z .opened ≡ false = sym (quiet-opened h ps q m a z) ∙ unopened in
             let its : k .history .current (d .server) ≡ z = open-current h b (d .server) f a in

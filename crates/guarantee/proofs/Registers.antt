@@ -11,13 +11,13 @@ use Rattle.base.specs.Below.{all}
 use Rattle.base.proofs.Tests.{both}
 use Rattle.base.proofs.Below.{all-at, upTo-length, upTo-at}
 use Rattle.cluster.specs.declared.Closing.{Closing}
-use Rattle.cluster.specs.declared.Closing.the-variants.{Unresolved, Mark}
+use Rattle.cluster.specs.declared.Closing.the-variants.{Unresolved, Mark, Restored}
 use Rattle.protocol.specs.Columns.{upd}
 use Rattle.protocol.proofs.Columns.{upd-same, upd-elim}
 use Rattle.cluster.specs.declared.Entry.{Entry}
 use Rattle.cluster.specs.declared.Register.{Register}
 use Rattle.cluster.specs.declared.Server.{Server}
-use Rattle.cluster.specs.State.{freshEntry, entryAt}
+use Rattle.cluster.specs.State.{freshEntry, entryAt, isRestored}
 use Rattle.cluster.specs.Refusals.{voteMark, cleanAt}
 use Rattle.cluster.specs.Effects.{closedAt, entryAfter, openedRegister}
 use Rattle.guarantee.specs.Registers.{sameClosing, sameEntry, changed}
@@ -33,6 +33,7 @@ all-true p h (suc n) = rw (all-true p h n, h n)
 same-closing : (c : Closing) → sameClosing c c ≡ true
 same-closing Unresolved = refl
 same-closing (Mark c) = eq-eqb c c refl
+same-closing Restored = refl
 
 pub unchanged : (g : Register) → changed g g ≡ false
 unfolding changed
@@ -60,6 +61,18 @@ changes g k i l d = go _ refl
         let f = entryAt (k .entries) i in
         absurd (d (eqb-true (e .session) (f .session) (both (eqb (e .session) (f .session)) (sameClosing (e .closing) (f .closing)) a .0)))
 
+-- a register whose session is another one
+pub raises : (g k : Register) → (g .session ≡ k .session → ⊥) → changed g k ≡ true
+unfolding changed
+raises g k d = go _ refl
+  where
+    same : ℕ → Bool
+    same j = sameEntry (entryAt (g .entries) j) (entryAt (k .entries) j)
+
+    go : (b : Bool) → eqb (g .session) (k .session) ≡ b → not (eqb (g .session) (k .session) && eqb (g .generation) (k .generation) && all same 7) ≡ true
+    go false e = rw e
+    go true e = absurd (d (eqb-true (g .session) (k .session) e))
+
 -- ================ an open's register
 
 module _ (R : ℕ) (g : Register) (v : Server) (le : R ≤ length (g .entries)) where
@@ -80,13 +93,25 @@ module _ (R : ℕ) (g : Register) (v : Server) (le : R ≤ length (g .entries)) 
       kept : (c : Closing) → closedAt (entryAt (g .entries) i) (voteMark R v) c .session ≡ entryAt (g .entries) i .session
       kept Unresolved = refl
       kept (Mark c) = refl
+      kept Restored = refl
 
   -- ---- its tie: the clean ones are unresolved, and the others that were get the mark
 
-  module _ (session′ : ℕ) (unresolved′ : ℕ → Bool) (closing′ : ℕ → ℕ) (opened : ℕ → Bool)
-      (T : RegisterTie R g session′ unresolved′ closing′ opened) (clean : ℕ → Bool) (same : (i : ℕ) → i < R → cleanAt v (voteMark R v) i ≡ clean i) where
+  module _ (session′ : ℕ) (unresolved′ : ℕ → Bool) (closing′ : ℕ → ℕ) (restored′ opened : ℕ → Bool)
+      (T : RegisterTie R g session′ unresolved′ closing′ restored′ opened) (clean : ℕ → Bool) (same : (i : ℕ) → i < R → cleanAt v (voteMark R v) i ≡ clean i) where
     abbrev after : ℕ → Bool → Entry
     after i b = entryAfter (entryAt (g .entries) i) b (v .session) (voteMark R v)
+
+    -- a restored one is ordinary if it is clean, and stays restored if not
+    restored : (i : ℕ) → i < R → (b : Bool) → isRestored (after i b .closing) ≡ (not b && restored′ i)
+    restored i l true = refl
+    restored i l false = go (entryAt (g .entries) i .closing) refl ∙ T .restored i l
+      where
+        go : (c : Closing) → entryAt (g .entries) i .closing ≡ c
+            → isRestored (closedAt (entryAt (g .entries) i) (voteMark R v) c .closing) ≡ isRestored (entryAt (g .entries) i .closing)
+        go Unresolved e = rw e
+        go (Mark c) e = refl
+        go Restored e = refl
 
     unresolved : (i : ℕ) → i < R → (b : Bool) → isUnresolved (after i b .closing) ≡ b
     unresolved i l true = refl
@@ -95,6 +120,7 @@ module _ (R : ℕ) (g : Register) (v : Server) (le : R ≤ length (g .entries)) 
         go : (c : Closing) → entryAt (g .entries) i .closing ≡ c → isUnresolved (closedAt (entryAt (g .entries) i) (voteMark R v) c .closing) ≡ false
         go Unresolved e = refl
         go (Mark c) e = rw e
+        go Restored e = rw e
 
     closing : (i c : ℕ) → i < R → (b : Bool) → after i b .closing ≡ Mark c → cond (unresolved′ i) (voteMark R v) (closing′ i) ≡ c
     closing i c l true e = let z : _≡_ {A = ℕ} 0 1 = cc in absurd (omega arith)
@@ -103,11 +129,14 @@ module _ (R : ℕ) (g : Register) (v : Server) (le : R ≤ length (g .entries)) 
         go : (k : Closing) → entryAt (g .entries) i .closing ≡ k → closedAt (entryAt (g .entries) i) (voteMark R v) k .closing ≡ Mark c
             → cond (unresolved′ i) (voteMark R v) (closing′ i) ≡ c
         go Unresolved q e =
-            let u : unresolved′ i ≡ true = sym (T .unresolved i l) ∙ ap isUnresolved q in
+            let r : restored′ i ≡ false = sym (T .restored i l) ∙ ap isRestored q in
+            let u : unresolved′ i ≡ true = sym (T .unresolved i l r) ∙ ap isUnresolved q in
             rw u (let d : voteMark R v ≡ c = cc (e) in d)
         go (Mark k) q e =
-            let u : unresolved′ i ≡ false = sym (T .unresolved i l) ∙ ap isUnresolved q in
+            let r : restored′ i ≡ false = sym (T .restored i l) ∙ ap isRestored q in
+            let u : unresolved′ i ≡ false = sym (T .unresolved i l r) ∙ ap isUnresolved q in
             rw u (T .closing i c l e)
+        go Restored q e = let z : _≡_ {A = ℕ} 0 1 = cc in absurd (omega arith)
 
     entry : (i : ℕ) → i < R → (b : Bool) → upd opened (v .session) true (after i b .session) ≡ true
     entry i l true = upd-same opened (v .session) true
@@ -119,15 +148,18 @@ module _ (R : ℕ) (g : Register) (v : Server) (le : R ≤ length (g .entries)) 
         go : (k : Closing) → upd opened (v .session) true (closedAt (entryAt (g .entries) i) (voteMark R v) k .session) ≡ true
         go Unresolved = old
         go (Mark k) = old
+        go Restored = old
 
-    pub opened-tie : RegisterTie R (openedRegister R g v (voteMark R v)) session′ clean (λ i. cond (unresolved′ i) (voteMark R v) (closing′ i)) (upd opened (v .session) true)
+    pub opened-tie : RegisterTie R (openedRegister R g v (voteMark R v)) session′ clean (λ i. cond (unresolved′ i) (voteMark R v) (closing′ i))
+        (λ i. not (clean i) && restored′ i) (upd opened (v .session) true)
     unfolding openedRegister
     opened-tie =
         record {
           session = T .session;
           fits = T .fits;
           size = upTo-length (λ i. entryAfter (entryAt (g .entries) i) (cleanAt v (voteMark R v) i) (v .session) (voteMark R v)) (g .entries) R ∙ T .size;
-          unresolved = λ i l. rw (entry-after i l) (unresolved i l (cleanAt v (voteMark R v) i) ∙ same i l);
+          restored = λ i l. rw (entry-after i l) (restored i l (cleanAt v (voteMark R v) i) ∙ rw (same i l));
+          unresolved = λ i l r. rw (entry-after i l) (unresolved i l (cleanAt v (voteMark R v) i) ∙ same i l);
           closing = λ i c l e. closing i c l (cleanAt v (voteMark R v) i) (rw (entry-after i l) at e);
           entry = λ i l. rw (entry-after i l) (entry i l (cleanAt v (voteMark R v) i));
         }

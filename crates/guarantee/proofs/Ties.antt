@@ -9,7 +9,7 @@ use mathlib.Core.Option.{Option, none, some}
 use Prim.Native.Nat.{ℕ, _*_, _^_, _≤_, _<_}
 use lib.ListN.{length, getD}
 use Rattle.cluster.specs.declared.Closing.{Closing}
-use Rattle.cluster.specs.declared.Closing.the-variants.{Unresolved, Mark}
+use Rattle.cluster.specs.declared.Closing.the-variants.{Unresolved, Mark, Restored}
 use Rattle.storage.specs.Sizes.{mediumSize}
 use Rattle.storage.specs.Places.{validPlace}
 use Rattle.storage.specs.Slots.{storedSlot, HasSlot, FittingSlot}
@@ -19,13 +19,13 @@ use Rattle.quorum.specs.Vote.{quorum}
 use Rattle.locks.specs.Locks.{estimateOf}
 use Rattle.protocol.specs.State as protocol
 use Rattle.protocol.specs.State.{Tx}
-use Rattle.protocol.specs.Events.{Steps}
+use Rattle.protocol.specs.Events.{Can-restore, Steps}
 use Rattle.cluster.specs.declared.Shape.{Shape}
 use Rattle.cluster.specs.declared.Register.{Register}
 use Rattle.cluster.specs.declared.Phase.the-variants.{Idle, Opening, Open}
 use Rattle.cluster.specs.declared.Server.{Server}
-use Rattle.cluster.specs.State.{State, noServer, entryAt, markAt, memberAt, activeAt, heldSize, holds, recordOf, tableSize, tableAt}
-use Rattle.guarantee.specs.History.{Transaction, Logged, Session, log, History, unopened}
+use Rattle.cluster.specs.State.{State, noServer, entryAt, isRestored, restoredAt, markAt, memberAt, activeAt, heldSize, holds, recordOf, tableSize, tableAt}
+use Rattle.guarantee.specs.History.{Transaction, Logged, Session, log, Earlier, History, unopened}
 
 -- ================ what the protocol's state has of one replica, one session's server, one session's history
 
@@ -33,11 +33,13 @@ pub record Copy : Type 0 where
   pub promise : ℕ
   pub mark : ℕ
   pub place : ℕ → Tx
+  pub low : ℕ
 
 pub record Row : Type 0 where
   pub phase : protocol.Phase
   pub handed-unresolved : ℕ → Bool
   pub handed-closing : ℕ → ℕ
+  pub handed-restored : ℕ → Bool
   pub known : ℕ → Bool
   pub recorded : ℕ → ℕ
   pub member : ℕ → Bool
@@ -55,7 +57,7 @@ pub record Story : Type 0 where
 
 module _ (σ : protocol.State) where
   abbrev pub copyOf : ℕ → Copy
-  copyOf i = record { promise = σ .promise i; mark = σ .mark i; place = σ .place i }
+  copyOf i = record { promise = σ .promise i; mark = σ .mark i; place = σ .place i; low = σ .low i }
 
   abbrev pub rowOf : ℕ → Row
   rowOf s =
@@ -63,6 +65,7 @@ module _ (σ : protocol.State) where
         phase = σ .phase s;
         handed-unresolved = σ .handed-unresolved s;
         handed-closing = σ .handed-closing s;
+        handed-restored = σ .handed-restored s;
         known = σ .known s;
         recorded = σ .recorded s;
         member = σ .member s;
@@ -92,6 +95,7 @@ pub record ReplicaTie (N : ℕ) (m : List ℕ) (standing : ℕ → Option Transa
   pub fitting : FittingSlot (storedSlot m)
   pub promise : storedSlot m .promise ≡ c .promise
   pub mark : markOf N m ≡ c .mark
+  pub low : storedSlot m .low ≡ c .low
   pub bytes : (n : ℕ) → 1 ≤ n → n ≤ c .mark → placeAt n m ≡ c .place n .bytes
   pub whose : (n : ℕ) → 1 ≤ n → n ≤ c .mark → standing n ≡ some (transactionOf (c .place n))
 
@@ -104,11 +108,13 @@ pub record ReplicasTie (R N : ℕ) (media : List ℕ) (standing : ℕ → ℕ �
 abbrev pub isUnresolved : Closing → Bool
 isUnresolved Unresolved = true
 isUnresolved (Mark c) = false
+isUnresolved Restored = false
 
 -- an opening server and the row of its session
 pub record OpeningTie (R : ℕ) (v : Server) (ρ : Row) : Type 0 where
   pub phase : ρ .phase ≡ protocol.Opening
-  pub unresolved : (i : ℕ) → i < R → isUnresolved (entryAt (v .entries) i .closing) ≡ ρ .handed-unresolved i
+  pub restored : (i : ℕ) → i < R → restoredAt v i ≡ ρ .handed-restored i
+  pub unresolved : (i : ℕ) → i < R → ρ .handed-restored i ≡ false → isUnresolved (entryAt (v .entries) i .closing) ≡ ρ .handed-unresolved i
   pub closing : (i c : ℕ) → i < R → entryAt (v .entries) i .closing ≡ Mark c → ρ .handed-closing i ≡ c
   pub known : (i : ℕ) → i < R → activeAt v i ≡ ρ .known i
   pub recorded : (i : ℕ) → i < R → ρ .known i ≡ true → markAt v i ≡ ρ .recorded i
@@ -153,11 +159,12 @@ pub record ServersTie (R : ℕ) (servers : List Server) (tables : List ℕ) (cur
 
 -- ================ the register
 
-pub record RegisterTie (R : ℕ) (g : Register) (session′ : ℕ) (unresolved′ : ℕ → Bool) (closing′ : ℕ → ℕ) (opened : ℕ → Bool) : Type 0 where
+pub record RegisterTie (R : ℕ) (g : Register) (session′ : ℕ) (unresolved′ : ℕ → Bool) (closing′ : ℕ → ℕ) (restored′ : ℕ → Bool) (opened : ℕ → Bool) : Type 0 where
   pub session : g .session ≡ session′
   pub fits : g .session < 2 ^ 64
   pub size : length (g .entries) ≡ 7
-  pub unresolved : (i : ℕ) → i < R → isUnresolved (entryAt (g .entries) i .closing) ≡ unresolved′ i
+  pub restored : (i : ℕ) → i < R → isRestored (entryAt (g .entries) i .closing) ≡ restored′ i
+  pub unresolved : (i : ℕ) → i < R → restored′ i ≡ false → isUnresolved (entryAt (g .entries) i .closing) ≡ unresolved′ i
   pub closing : (i c : ℕ) → i < R → entryAt (g .entries) i .closing ≡ Mark c → closing′ i ≡ c
   -- only an open sets an entry to its session: an open changes the entry of each replica that it finds clean
   pub entry : (i : ℕ) → i < R → opened (entryAt (g .entries) i .session) ≡ true
@@ -184,10 +191,25 @@ SessionsTie sessions stories = (s : ℕ) → SessionTie (sessions s) (stories s)
 pub record Sim (h : Shape) (x : State) (H : History) (σ : protocol.State) : Type 0 where
   pub R : σ .R ≡ h .replicas
   pub Q : σ .Q ≡ quorum (h .replicas)
-  pub register : RegisterTie (h .replicas) (x .records .register) (σ .session) (σ .unresolved) (σ .closing) (σ .opened)
+  pub register : RegisterTie (h .replicas) (x .records .register) (σ .session) (σ .unresolved) (σ .closing) (σ .restored) (σ .opened)
   pub replicas : ReplicasTie (h .replicas) (h .places) (x .media) (H .standing) (copyOf σ)
   pub servers : ServersTie (h .replicas) (x .records .servers) (x .tables) (H .current) (rowOf σ)
   pub sessions : SessionsTie (H .sessions) (storyOf σ)
+
+-- ================ what stood on the replicas earlier
+
+abbrev pub contentOf : Copy → protocol.Content
+contentOf c = record { mark = c .mark; place = c .place; low = c .low }
+
+-- a medium, with the transactions put on it, that may be restored in σ
+pub record Backed (N : ℕ) (m : List ℕ) (standing : ℕ → Option Transaction) (σ : protocol.State) : Type 0 where
+  pub copy : Copy
+  pub tie : ReplicaTie N m standing copy
+  pub can : Can-restore σ (contentOf copy)
+
+-- what each replica held at each moment may be
+abbrev pub Past : Shape → (ℕ → Earlier) → protocol.State → Type 0
+Past h past σ = (k i : ℕ) → i < h .replicas → Backed (h .places) (mediumAt (h .places) i (past k .media)) (past k .standing i) σ
 
 -- what is to be shown of a call that leaves state y and history K: it is a list of events
 abbrev pub Goes : Shape → protocol.State → State → History → Type 0

@@ -61,6 +61,7 @@ told-keeps h x e r H (call.Read s i n f) K = K
 told-keeps h x e r H (call.Export s i f) K = K
 told-keeps h x e r H (call.Stop s) K = K
 told-keeps h x e r H call.Reassign K = K
+told-keeps h x e r H (call.Restore i) K = K
 
 heard-keeps : (r : Reply) (H J : History) → Started H → Started J → Started (heard r H J)
 unfolding heard

@@ -12,3 +12,4 @@ pub mod Trim
 pub mod Prepare
 pub mod Send
 pub mod Copy
+pub mod Restore

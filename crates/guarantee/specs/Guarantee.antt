@@ -18,6 +18,13 @@
 --   "A send that makes a place valid puts there the transaction of its session's issue that answered this place's number; a copy puts there the one in
 --     a's place of the same number."                                    History.antt `put`, `told` of a send and of a copy
 --   "A transaction's locks and client mark are those of its issue call, not of another with equal bytes."  History.antt `Transaction`
+-- and of document 02, No. 10:
+--   "A damaged medium is replaced by bytes that the same replica held between two earlier calls."  `Covered.restores`, below: at a moment from the fresh
+--     cluster up to the one just before the restore. A restore that is declined may have any bytes.
+--   "Whoever booked before the restore must still find the booking, for lists that include this call with such bytes"  `Guarantee`, below: a list may hold
+--     any number of restores, and the conclusions are the same
+--   "each place then holds again the transaction that it held at that earlier moment (at any of them, if the bytes stood more than once)."  History.antt
+--     `told` of a restore. The element says which moment is meant, so that the conclusions hold for each at which the bytes stood.
 -- Of any two sessions that are opened in a list:
 --   (1) all that the earlier ever acknowledges lies at or below the later one's starting mark: `Kept.start`
 --   (2) both logs hold the same bytes under each ID that both acknowledge: `Kept.same`. There is one x that both logs have under n, bytes and
@@ -32,13 +39,13 @@
 --
 -- Document 02, No. 9: a list "may hold" a recovery by a driver, "as the calls it makes". Recoveries.antt has the same conclusions over such lists.
 --
--- Each list of calls whose arguments fit is one of these lists: proofs/Readable.antt `readable`. With (1) and (2): all that the earlier of two
--- opened sessions ever acknowledges is in the later one's log, the same bytes (proofs/Whole.antt `whole`). Nothing in a history is written over: a
--- session is opened once and issues an ID once (proofs/Once.antt `once`), and none more than K above its starting mark (proofs/Interval.antt
+-- Each list of calls whose arguments fit, its restores with bytes that stood, is one of these lists: proofs/Readable.antt `readable`. With (1) and (2): all
+-- that the earlier of two opened sessions ever acknowledges is in the later one's log, the same bytes (proofs/Whole.antt `whole`). Of sessions nothing is
+-- written over: one is opened once and issues an ID once (proofs/Once.antt `once`), and none more than K above its starting mark (proofs/Interval.antt
 -- `interval`). What an open server holds of an ID is what its session issued under it (proofs/InFlight.antt `in-flight`). A client that has read all that
 -- is issued is not declined by 15, and one that has read all that is acknowledged only for a record in flight (proofs/Readers.antt `readers`).
--- Running `apply` over a list from `fresh::start` leaves the states of `along` (proofs/Running.antt `runs`). The crate guarantee_example works four lists
--- out, one of them with a server that is stopped while its records have reached different replicas, one with three recoveries.
+-- Running `apply` over a list from `fresh::start` leaves the states of `along` (proofs/Running.antt `runs`). The crate guarantee_example works five lists
+-- out, one of them with a server that is stopped while its records have reached different replicas, one with three recoveries, one with a restore.
 --
 -- How to read it, if you do not know the notation:
 --   x : A                  x is of the type A; ℕ are the numbers from 0, Bool is true or false, Type 0 is what is to be shown
@@ -63,6 +70,7 @@ use lib.ListN.{length}
 use Rattle.octets.specs.Octets.{Bytes}
 use Rattle.fate.specs.declared.Fate.{Fate}
 use Rattle.storage.specs.Sizes.{placeSize}
+use Rattle.storage.specs.Operations.{mediumAt}
 use Rattle.cluster.specs.declared.Shape.{Shape}
 use Rattle.cluster.specs.declared.Request.{Request}
 use Rattle.cluster.specs.declared.Call.{Call}
@@ -85,7 +93,8 @@ pub record InRange (h : Shape) : Type 0 where
   pub interval-most : h .interval ≤ h .places
 
 -- Arguments within their widths, as far as the guarantee needs it. The types of the running calls say this, and more: here servers, replicas, IDs, marks
--- and locks may be any numbers, and so may the time and the key of an export and what lies in its two files.
+-- and locks may be any numbers, and so may the time and the key of an export and what lies in its two files. Which bytes a restore may have is said below
+-- (`Covered.restores`).
 pub record RequestFits (q : Request) : Type 0 where
   pub client : q .client < 2 ^ 32
   pub generation : q .generation < 2 ^ 32
@@ -93,7 +102,7 @@ pub record RequestFits (q : Request) : Type 0 where
   pub sequence : q .sequence < 2 ^ 64
   pub header : q .header < 2 ^ 32
 
--- the calls with a message to a replica: bytes for a torn write lie beside them. The other five read none, so that any may stand there.
+-- the calls with a message to a replica: bytes for a torn write lie beside them. The other six read none, so that any may stand there.
 abbrev pub messages : Call → Bool
 messages (call.Take s f) = false
 messages (call.Prepare s i f) = true
@@ -107,20 +116,26 @@ messages (call.Read s i n f) = true
 messages (call.Export s i f) = true
 messages (call.Stop s) = false
 messages call.Reassign = false
+messages (call.Restore i) = false
 
 pub record Fits (p : Input) : Type 0 where
   pub given : messages (p .call) ≡ true → length (p .given) ≡ placeSize  -- "Given bytes are 64", 72 since document 02, No. 7
   pub content : Bytes (p .content)
   pub request : (s : ℕ) (q : Request) → p .call ≡ call.Issue s q → RequestFits q
 
--- An element that the guarantee speaks of, declined or not: its arguments fit, and for a call that opens a session the replica read is one "whose
--- entry this call sets to the session (whichever such replica is read)". m is the moment before the call.
+-- An element that the guarantee speaks of, declined or not: its arguments fit; for a call that opens a session the replica read is one "whose entry this
+-- call sets to the session (whichever such replica is read)"; the bytes of a restore are what its replica held at the moment named. m is the moment
+-- before the call.
 pub record Covered (h : Shape) (m : Moment) (e : Element) : Type 0 where
   pub fits : Fits (e .input)
   pub reads : (s : ℕ) (f : Fate) → e .input .call ≡ call.Open s f
       → let g = m .state .records .register in
       let k = next h m e .state .records .register in
       changed g k ≡ true → (e .reader < h .replicas) × (entryAt (k .entries) (e .reader) .session ≡ m .history .current s)
+  -- a restore that is not declined raises the register's session
+  pub restores : (i : ℕ) → e .input .call ≡ call.Restore i
+      → changed (m .state .records .register) (next h m e .state .records .register) ≡ true
+      → (e .moment ≤ m .history .calls) × (e .input .backup ≡ mediumAt (h .places) i (m .history .past (e .moment) .media))
 
 abbrev pub CoveredAll : Shape → Moment → List Element → Type 0
 CoveredAll h m [] = Unit {0}

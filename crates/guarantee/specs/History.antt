@@ -1,5 +1,7 @@
 -- The history of a list of calls: what document 01, "Words of demand 3", says of sessions, their logs, what they acknowledge, and the
 -- transaction that stands in a place. It is folded along the list: each call gets the state as the one before left it, and adds to the history.
+-- Document 02, No. 10: a restore brings earlier bytes back, and "each place then holds again the transaction that it held at that earlier moment"; so a
+-- history has the moments between its calls too (`past`, `told` of a restore).
 -- The notation is explained at the head of Guarantee.antt.
 -- Assumes nothing.
 use Prim.Native.Nat.{ℕ, suc, max}
@@ -25,10 +27,12 @@ use Rattle.guarantee.specs.Registers.{changed}
 
 -- ================ what a history holds
 
--- a call of the list with its arguments; and, for a call that opens a session, the replica that is read for the session's starting log
+-- a call of the list with its arguments; for a call that opens a session, the replica that is read for the session's starting log; for a restore, the
+-- moment at which its bytes stood on the replica, as the number of calls before it
 pub record Element : Type 0 where
   pub input : Input
   pub reader : ℕ
+  pub moment : ℕ
 
 -- An issue call: "A transaction's locks and client mark are those of its issue call, not of another with equal bytes."
 pub record Transaction : Type 0 where
@@ -53,11 +57,17 @@ pub record Session : Type 0 where
 abbrev pub log : Session → ℕ → Option Logged
 log z n = cond (leb n (z .start)) (z .starting n) (z .issues n)
 
+-- what the replicas held at a moment between two calls: the media, and for each replica and place whose record was put there
+pub record Earlier : Type 0 where
+  pub media : List ℕ
+  pub standing : ℕ → ℕ → Option Transaction
+
 pub record History : Type 0 where
   pub calls : ℕ  -- how many calls there were
   pub current : ℕ → ℕ  -- server: "the session that its last take answered", 0 before the first
   pub standing : ℕ → ℕ → Option Transaction  -- replica, place: whose record was put there
   pub sessions : ℕ → Session
+  pub past : ℕ → Earlier  -- the moment after so many calls, up to the present one; the fresh cluster where so many are not made yet
 
 -- ================ what a call adds
 
@@ -76,15 +86,15 @@ valueOr d silent = d
 
 abbrev pub withCurrent : History → ℕ → ℕ → History
 withCurrent H s n =
-    record { calls = H .calls; current = setAt (H .current) s n; standing = H .standing; sessions = H .sessions }
+    record { calls = H .calls; current = setAt (H .current) s n; standing = H .standing; sessions = H .sessions; past = H .past }
 
 abbrev pub withStanding : History → ℕ → (ℕ → Option Transaction) → History
 withStanding H i places =
-    record { calls = H .calls; current = H .current; standing = setAt (H .standing) i places; sessions = H .sessions }
+    record { calls = H .calls; current = H .current; standing = setAt (H .standing) i places; sessions = H .sessions; past = H .past }
 
 abbrev pub withSession : History → ℕ → Session → History
 withSession H s z =
-    record { calls = H .calls; current = H .current; standing = H .standing; sessions = setAt (H .sessions) s z }
+    record { calls = H .calls; current = H .current; standing = H .standing; sessions = setAt (H .sessions) s z; past = H .past }
 
 -- place n of replica i is valid
 abbrev pub validAt : ℕ → State → ℕ → ℕ → Bool
@@ -118,9 +128,22 @@ loggedAs bytes (some t) = some (record { bytes = bytes; transaction = t })
 abbrev pub stands : ℕ → State → History → ℕ → ℕ → Option Logged
 stands N x H i n = cond (validAt N x i n) (loggedAs (placeAt n (mediumAt N i (x .media))) (H .standing i n)) none
 
+-- the same arguments beside another call
+abbrev pub withCall : Call → Input → Input
+withCall c p =
+    record {
+      call = c;
+      content = p .content;
+      locks = p .locks;
+      given = p .given;
+      stamp = p .stamp;
+      files = p .files;
+      backup = p .backup;
+    }
+
 -- "its starting mark is what that call answers under the fate answered"
 abbrev pub answeredOpen : Input → ℕ → Input
-answeredOpen p s = record { call = call.Open s Answered; content = p .content; locks = p .locks; given = p .given; stamp = p .stamp; files = p .files }
+answeredOpen p s = withCall (call.Open s Answered) p
 
 abbrev pub startingMark : Shape → State → Input → ℕ → ℕ
 startingMark h x p s = valueOr 0 (step h x (answeredOpen p s) .reply)
@@ -169,6 +192,8 @@ told h x e r H (call.Read s i n f) = H
 told h x e r H (call.Export s i f) = H
 told h x e r H (call.Stop s) = H
 told h x e r H call.Reassign = H
+-- document 02, No. 10: "each place then holds again the transaction that it held at that earlier moment"
+told h x e r H (call.Restore i) = withStanding H i (H .past (e .moment) .standing i)
 
 -- "A declined call answers nothing."
 unfoldable pub heard : Reply → History → History → History
@@ -176,8 +201,16 @@ heard (ok vs) H more = more
 heard silent H more = more
 heard (no n vs) H more = H
 
-abbrev pub counted : History → History
-counted H = record { calls = suc (H .calls); current = H .current; standing = H .standing; sessions = H .sessions }
+-- one call more, which has left these media: a moment of its own
+abbrev pub counted : List ℕ → History → History
+counted media H =
+    record {
+      calls = suc (H .calls);
+      current = H .current;
+      standing = H .standing;
+      sessions = H .sessions;
+      past = setAt (H .past) (suc (H .calls)) (record { media = media; standing = H .standing });
+    }
 
 -- ================ along the list
 
@@ -189,7 +222,8 @@ pub record Moment : Type 0 where
 unfoldable pub next : Shape → Moment → Element → Moment
 next h m e =
     let r = step h (m .state) (e .input) in
-    record { state = r .state; history = counted (heard (r .reply) (m .history) (told h (m .state) e r (m .history) (e .input .call))) }
+    let H = m .history in
+    record { state = r .state; history = counted (r .state .media) (heard (r .reply) H (told h (m .state) e r H (e .input .call))) }
 
 abbrev pub unopened : Session
 unopened = record { opened = false; start = 0; starting = λ n. none; issues = λ n. none; acknowledged = 0 }
@@ -198,7 +232,14 @@ unfoldable pub beginning : Shape → Moment
 beginning h =
     record {
       state = fresh h;
-      history = record { calls = 0; current = λ s. 0; standing = λ i n. none; sessions = λ s. unopened };
+      history =
+          record {
+            calls = 0;
+            current = λ s. 0;
+            standing = λ i n. none;
+            sessions = λ s. unopened;
+            past = λ k. record { media = fresh h .media; standing = λ i n. none };
+          };
     }
 
 -- "Each call of its list gets register, media, server records and lock tables as the one before left them, with the cluster's R and N"; document 02,

@@ -15,6 +15,9 @@
 -- Of a recovery nothing else is asked: one that is declined makes no call, and of another's calls the arguments fit (proofs/Driven.antt `calls-fit`). So no
 -- more is asked of it than Guarantee.antt asks of its calls (proofs/NoMore.antt `no-more`).
 --
+-- Document 02, No. 10: a restore is a call, and so an item of its own. Its bytes may be of any moment between two calls, those of a recovery included, since
+-- moments are counted by calls.
+--
 -- Each list of calls that fit and of recoveries is one of these lists: proofs/ReadableItems.antt `readable-items`. The state that a recovery leaves is the
 -- one that crate recovery gives, and it counts for as many calls (proofs/Items.antt `state-equation`). What is shown after every list of calls holds after
 -- every list of items (proofs/Recoveries.antt `over-items`; proofs/AfterItems.antt has the theorems beside the guarantee). The crate guarantee_example works
@@ -41,9 +44,9 @@ pub data Item : Type 0 where
   one : Element → Item
   recovery : Recovery → ℕ → Item
 
--- a call of a recovery, with that replica
+-- a call of a recovery, with that replica; it is no restore, so that no moment is read
 abbrev pub reading : ℕ → Input → Element
-reading a p = record { input = p; reader = a }
+reading a p = record { input = p; reader = a; moment = 0 }
 
 -- "a list of demand 3 may hold it, as the calls it makes": in moment m an item stands for these
 abbrev pub elementsOf : Shape → Moment → Item → List Element

@@ -18,7 +18,7 @@ use Rattle.cluster.specs.Effects.{noBytes}
 use Rattle.recovery.specs.Recovery.{bare}
 use Rattle.guarantee.specs.History.{Element}
 use Rattle.guarantee.specs.Guarantee.{messages, Fits}
-use Rattle.guarantee_example.specs.Elements.{plain, request, asking, gate, issuing}
+use Rattle.guarantee_example.specs.Elements.{plain, restoring, request, asking, gate, issuing}
 use Rattle.guarantee_example.proofs.Outline.{FitEach}
 
 plain-fits : (c : Call) → ((s : ℕ) (q : Request) → c ≡ call.Issue s q → ⊥) → Fits (plain c .input)
@@ -54,6 +54,10 @@ copy s a b = plain-fits (call.Copy s a b Answered) (λ t q e. let z : _≡_ {A =
 
 pub stop : (s : ℕ) → Fits (plain (call.Stop s) .input)
 stop s = plain-fits (call.Stop s) (λ t q e. let z : _≡_ {A = ℕ} 0 1 = cc in omega arith)
+
+pub restoring-fits : (i : ℕ) (backup : List ℕ) (moment : ℕ) → Fits (restoring i backup moment .input)
+restoring-fits i backup moment =
+    record { given = λ m. refl; content = tt; request = λ s q e. let z : _≡_ {A = ℕ} 0 1 = cc in absurd (omega arith) }
 
 -- a recovery's calls
 bare-fits : (c : Call) (given : List ℕ) → (messages c ≡ true → length given ≡ placeSize) → ((s : ℕ) (q : Request) → c ≡ call.Issue s q → ⊥) → Fits (bare c given)

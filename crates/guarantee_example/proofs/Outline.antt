@@ -1,13 +1,14 @@
 -- The outline of a list of calls: what each replies and which session it opens. The states are worked out once for it; the history, and that the
 -- guarantee speaks of the list, are read off the outline, whatever the states are.
 -- Assumes nothing.
-use mathlib.Core.Path.{_≡_, refl, ap, _∙_, subst⁻¹}
+use mathlib.Core.Path.{_≡_, refl, ap, _∙_, subst, subst⁻¹}
 use mathlib.Core.Bool.{Bool, true, false, cond}
 use mathlib.Core.List.{List, [], _∷_, _++_}
 use mathlib.Core.Option.{Option, none, some}
-use Prim.Native.Nat.{ℕ, _<_}
+use Prim.Native.Nat.{ℕ, _≤_, _<_}
 use native.Mathlib.Omega.{arith}
 use Rattle.fate.specs.declared.Fate.{Fate}
+use Rattle.storage.specs.Operations.{mediumAt}
 use Rattle.cluster.specs.declared.Shape.{Shape}
 use Rattle.cluster.specs.declared.Call.{Call}
 use Rattle.cluster.specs.declared.Call.the-variants as call
@@ -41,6 +42,7 @@ opensBy h x e (call.Read s i n f) = none
 opensBy h x e (call.Export s i f) = none
 opensBy h x e (call.Stop s) = none
 opensBy h x e call.Reassign = none
+opensBy h x e (call.Restore i) = none
 
 pub record Line : Type 0 where
   pub reply : Reply
@@ -91,9 +93,10 @@ retell h x e l H (call.Read s i n f) = told h x e (replying h x e l) H (call.Rea
 retell h x e l H (call.Export s i f) = told h x e (replying h x e l) H (call.Export s i f)
 retell h x e l H (call.Stop s) = told h x e (replying h x e l) H (call.Stop s)
 retell h x e l H call.Reassign = told h x e (replying h x e l) H call.Reassign
+retell h x e l H (call.Restore i) = told h x e (replying h x e l) H (call.Restore i)
 
 abbrev nextBy : Shape → State → Element → Line → History → History
-nextBy h x e l H = counted (heard (l .reply) H (retell h x e l H (e .input .call)))
+nextBy h x e l H = counted (step h x (e .input) .state .media) (heard (l .reply) H (retell h x e l H (e .input .call)))
 
 unfoldable pub retold : Shape → State → List Element → List Line → History → History
 retold h x [] ls H = H
@@ -123,6 +126,7 @@ retell-is h x e H (call.Read s i n f) = refl
 retell-is h x e H (call.Export s i f) = refl
 retell-is h x e H (call.Stop s) = refl
 retell-is h x e H call.Reassign = refl
+retell-is h x e H (call.Restore i) = refl
 
 next-is : (h : Shape) (m : Moment) (e : Element)
     → next h m e ≡ record { state = step h (m .state) (e .input) .state; history = nextBy h (m .state) e (lineOf h (m .state) e) (m .history) }
@@ -156,14 +160,37 @@ opener (call.Read s i n f) = 0
 opener (call.Export s i f) = 0
 opener (call.Stop s) = 0
 opener call.Reassign = 0
+opener (call.Restore i) = 0
 
--- each replica that is read has the session in its entry: a pair for each call that opens one
+-- the replica of a restore
+abbrev backedUp : Call → Option ℕ
+backedUp (call.Restore i) = some i
+backedUp (call.Open s f) = none
+backedUp (call.Take s f) = none
+backedUp (call.Prepare s i f) = none
+backedUp (call.Copy s a b f) = none
+backedUp (call.Trim s i f) = none
+backedUp (call.Issue s q) = none
+backedUp (call.Send s i f) = none
+backedUp (call.Note s i f) = none
+backedUp (call.Read s i n f) = none
+backedUp (call.Export s i f) = none
+backedUp (call.Stop s) = none
+backedUp call.Reassign = none
+
+-- the bytes of a restore are what its replica held at the moment named; and so on
+abbrev Backs : ℕ → History → Element → Option ℕ → Type 0 → Type 0
+Backs N H e none more = more
+Backs N H e (some i) more = ((e .moment ≤ H .calls) × (e .input .backup ≡ mediumAt N i (H .past (e .moment) .media))) × more
+
+-- each replica that is read has the session in its entry: a pair for each call that opens one; and a pair for each restore
 abbrev pub ReadAll : Shape → State → List Element → List Line → History → Type 0
 ReadAll h x [] ls H = Unit {0}
 ReadAll h x (e ∷ es) [] H = Unit {0}
 ReadAll h x (e ∷ es) (l ∷ ls) H =
-    Read (h .replicas) (e .reader) (H .current (opener (e .input .call))) (l .opens)
-    (ReadAll h (step h x (e .input) .state) es ls (nextBy h x e l H))
+    Backs (h .places) H e (backedUp (e .input .call))
+    (Read (h .replicas) (e .reader) (H .current (opener (e .input .call))) (l .opens)
+    (ReadAll h (step h x (e .input) .state) es ls (nextBy h x e l H)))
 
 abbrev pub FitEach : List Element → Type 0
 FitEach [] = Unit {0}
@@ -192,13 +219,25 @@ reads h x H e (call.Read t i n g) more r s f q = let z : _≡_ {A = ℕ} 0 1 = c
 reads h x H e (call.Export t i g) more r s f q = let z : _≡_ {A = ℕ} 0 1 = cc in absurd (omega arith)
 reads h x H e (call.Stop t) more r s f q = let z : _≡_ {A = ℕ} 0 1 = cc in absurd (omega arith)
 reads h x H e call.Reassign more r s f q = let z : _≡_ {A = ℕ} 0 1 = cc in absurd (omega arith)
+reads h x H e (call.Restore i) more r s f q = let z : _≡_ {A = ℕ} 0 1 = cc in absurd (omega arith)
+
+behind : (N : ℕ) (H : History) (e : Element) (o : Option ℕ) (more : Type 0) → Backs N H e o more → more
+behind N H e none more b = b
+behind N H e (some i) more b = b .1
+
+backs : (N : ℕ) (H : History) (e : Element) (more : Type 0) → Backs N H e (backedUp (e .input .call)) more → (i : ℕ) → e .input .call ≡ call.Restore i
+    → (e .moment ≤ H .calls) × (e .input .backup ≡ mediumAt N i (H .past (e .moment) .media))
+backs N H e more b i q = subst (λ (o : Option ℕ). Backs N H e o more) (ap backedUp q) b .0
 
 pub covers : (h : Shape) (es : List Element) (m : Moment) → FitEach es → ReadAll h (m .state) es (outline h (m .state) es .0) (m .history)
     → CoveredAll h m es
 unfolding outline next
 covers h [] m fit read = tt
-covers h (e ∷ es) m fit read = (
-  record { fits = fit .0; reads = reads h (m .state) (m .history) e (e .input .call) _ read },
-  subst⁻¹ (λ (k : Moment). CoveredAll h k es) (next-is h m e)
-      (covers h es _ (fit .1) (further _ _ _ (opensBy h (m .state) e (e .input .call)) _ read)),
-)
+covers h (e ∷ es) m fit read =
+    let c = e .input .call in
+    let H = m .history in
+    let past = behind (h .places) H e (backedUp c) _ read in (
+      record { fits = fit .0; reads = reads h (m .state) H e c _ past; restores = λ i q changes. backs (h .places) H e _ read i q },
+      subst⁻¹ (λ (k : Moment). CoveredAll h k es) (next-is h m e)
+          (covers h es _ (fit .1) (further _ _ _ (opensBy h (m .state) e c) _ past)),
+    )

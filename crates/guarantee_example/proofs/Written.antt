@@ -1,6 +1,6 @@
 -- What the written-out states are made of: register and servers; the records of IDs 1 to 4, a wiped place, and the slots that promise sessions 0 to 2, to
--- the byte. A list written out is read faster than one that has to be worked out each time. Parts, Checkpoint, InFlight and Recovered show
--- that the calls leave these.
+-- the byte. A list written out is read faster than one that has to be worked out each time. Parts, Checkpoint, InFlight, Recovered and
+-- Restored show that the calls leave these.
 -- Assumes nothing.
 use mathlib.Core.Bool.{Bool, true, false}
 use mathlib.Core.List.{List, [], _∷_, _++_}

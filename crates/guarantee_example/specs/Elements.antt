@@ -21,9 +21,30 @@ noStamp = record { time = 0; key = replicate {A = ℕ} 16 0 }
 abbrev noFiles : Files
 noFiles = record { dataFile = []; indexFile = [] }
 
--- A call without data and locks. Where it opens a session replica 2 is read. No fate here reads the given bytes.
+-- A call without data and locks, and with these bytes for a restore. Where it opens a session replica 2 is read. No fate here reads the given bytes.
+abbrev bringing : Call → List ℕ → ℕ → Element
+bringing c backup moment =
+    record {
+      input =
+          record {
+            call = c;
+            content = [];
+            locks = [];
+            given = replicate {A = ℕ} placeSize 0;
+            stamp = noStamp;
+            files = noFiles;
+            backup = backup;
+          };
+      reader = 2;
+      moment = moment;
+    }
+
 abbrev pub plain : Call → Element
-plain c = record { input = record { call = c; content = []; locks = []; given = replicate {A = ℕ} placeSize 0; stamp = noStamp; files = noFiles }; reader = 2 }
+plain c = bringing c [] 0
+
+-- replica i gets what it held after so many calls
+abbrev pub restoring : ℕ → List ℕ → ℕ → Element
+restoring i backup moment = bringing (call.Restore i) backup moment
 
 -- a request of this client, with this mark
 abbrev pub request : ℕ → ℕ → Request
@@ -32,7 +53,20 @@ request client mark = record { mark = mark; client = client; generation = 0; par
 -- server 0 is asked to issue it
 abbrev pub asking : ℕ → ℕ → List ℕ → List ℕ → Element
 asking client mark locks content =
-    record { input = record { call = call.Issue 0 (request client mark); content = content; locks = locks; given = []; stamp = noStamp; files = noFiles }; reader = 0 }
+    record {
+      input =
+          record {
+            call = call.Issue 0 (request client mark);
+            content = content;
+            locks = locks;
+            given = [];
+            stamp = noStamp;
+            files = noFiles;
+            backup = [];
+          };
+      reader = 0;
+      moment = 0;
+    }
 
 -- a client number of either kind: a gate, and the booking system
 abbrev pub gate : ℕ

@@ -3,3 +3,4 @@ pub mod Example
 pub mod Checkpoint
 pub mod InFlight
 pub mod Recovered
+pub mod Restored

@@ -117,7 +117,7 @@ pub fn issue(
     content: &[u8],
     locks: &[u64],
 ) -> Outcome
-    ensures { λ o. ⌜ resultOf o (now (media .entry)) (now (tables .exit)) ≡ step shape (stateOf records (now (media .entry)) (now (tables .entry))) (record { call = call.Issue server request; content = now (content .entry); locks = now (locks .entry); given = []; stamp = noStamp; files = noFiles }) ⌝ }
+    ensures { λ o. ⌜ resultOf o (now (media .entry)) (now (tables .exit)) ≡ step shape (stateOf records (now (media .entry)) (now (tables .entry))) (record { call = call.Issue server request; content = now (content .entry); locks = now (locks .entry); given = []; stamp = noStamp; files = noFiles; backup = [] }) ⌝ }
 {
     let limits = limits_of(request.client);
     issue_under(

@@ -72,20 +72,21 @@ fn renew(t: &Tables, m: &mut [u8], c: Current, x: Slot, session: u64, given: &[u
     2
 }
 
-// A log with mark n is truncated to the closing mark, if there is one: writes from k on.
-fn close(m: &mut [u8], n: usize, to: Target, given: &[u8], f: Fate, k: u64)
+// A log with mark n is truncated to the closing mark or to the low-water mark, if either is asked for: writes from k on.
+fn close(m: &mut [u8], n: usize, low: u64, to: Target, given: &[u8], f: Fate, k: u64)
     requires { ⌜ mediumSize n ≤ length (now m) ⌝ }
     requires { ⌜ length (now given) ≡ placeSize ⌝ }
     requires { ⌜ k ≤ 2 ⌝ }
-    ensures { λ _. ⌜ now (m .exit) ≡ afterFrom k f (now (given .entry)) (closing n to) (now (m .entry)) ⌝ }
+    ensures { λ _. ⌜ now (m .exit) ≡ afterFrom k f (now (given .entry)) (closing n low to) (now (m .entry)) ⌝ }
 {
     match to {
         Target::Whole => {}
         Target::Mark(t) => places::truncate(m, n, t as usize, given, f, k),
+        Target::LowWater => places::truncate(m, n, low as usize, given, f, k),
     }
 }
 
-// prepare: the promise of a session, then truncation to the closing mark.
+// prepare: the promise of a session, then truncation, also where the promise is the old one.
 fn prepare(t: &Tables, m: &mut [u8], read: Read, session: u64, to: Target, given: &[u8], f: Fate)
     requires { ⌜ now t ≡ tablesOf ⌝ }
     requires { ⌜ AsRead read (now m) ⌝ }
@@ -95,7 +96,7 @@ fn prepare(t: &Tables, m: &mut [u8], read: Read, session: u64, to: Target, given
     let c = read.current;
     let x = read.slot;
     let k = renew(t, m, c, x, session, given, f);
-    close(m, read.mark, to, given, f, k);
+    close(m, read.mark, x.low, to, given, f, k);
 }
 
 // trim: truncation to a mark.
@@ -166,28 +167,31 @@ fn lesser(a: u64, b: u64) -> u64
     if a <= b { a } else { b }
 }
 
-// The mark that a truncation leaves of a log with mark n.
-fn closed_mark(to: Target, n: u64) -> u64
-    ensures { λ r. ⌜ r ≡ closedMark to n ⌝ }
+// The mark that a prepare leaves of a log with mark n.
+fn closed_mark(low: u64, to: Target, n: u64) -> u64
+    ensures { λ r. ⌜ r ≡ closedMark low to n ⌝ }
 {
     match to {
         Target::Whole => n,
         Target::Mark(t) => lesser(t, n),
+        Target::LowWater => lesser(low, n),
     }
 }
 
-// The mark of a medium after an operation on a log with mark n: only behind an append are places read, from the one behind the old mark on.
-pub fn mark_after(t: &Tables, m: &[u8], places: usize, op: Operation, n: u64) -> u64
+// The mark of a medium after an operation, by what was read before it: only behind an append are places read again, from the one behind the old mark on.
+pub fn mark_after(t: &Tables, m: &[u8], read: Read, op: Operation) -> u64
     requires { ⌜ now t ≡ tablesOf ⌝ }
-    requires { ⌜ length (now m) ≡ mediumSize places ⌝ }
-    requires { ⌜ MarkKnown places op n (now m) ⌝ }
-    ensures { λ r. ⌜ r ≡ markOf places (now (m .entry)) ⌝ }
+    requires { ⌜ length (now m) ≡ mediumSize (read .places) ⌝ }
+    requires { ⌜ MarkKnown (read .places) op (read .slot .low) (read .mark) (now m) ⌝ }
+    ensures { λ r. ⌜ r ≡ markOf (read .places) (now (m .entry)) ⌝ }
 {
+    let x = read.slot;
+    let n = read.mark as u64;
     match op {
-        Operation::Prepare(_, to) => closed_mark(to, n),
+        Operation::Prepare(_, to) => closed_mark(x.low, to, n),
         Operation::Trim(to) => lesser(to, n),
         Operation::Note(_, _) => n,
-        Operation::Append(_) => scan::mark_from(t, m, places, n as usize) as u64,
+        Operation::Append(_) => scan::mark_from(t, m, read.places, read.mark) as u64,
     }
 }
 

@@ -7,8 +7,9 @@ use Prim.Native.Nat.{ℕ, suc, _≤_, _<_}
 use native.Mathlib.Omega.{arith}
 use native.Mathlib.Decide.{decLe, decLt}
 use Rattle.protocol.specs.Columns.{upd, append-mark, append-place}
-use Rattle.protocol.specs.State.{Tx, Phase, Idle, Opening, Open, State}
+use Rattle.protocol.specs.State.{Tx, Phase, Idle, Opening, Open, State, Content, content}
 use Rattle.protocol.specs.Marks.{reaches?}
+use Rattle.protocol.specs.Events.{Saved}
 use Rattle.protocol.proofs.Columns.{upd-other, append-cases}
 use Rattle.protocol.proofs.Counting.{count-mono}
 use Rattle.protocol.proofs.Invariant.{Could, could?, Unackable, Never, NewestUpTo, Acks, Logs, Inv}
@@ -78,6 +79,28 @@ module _ (σ : State) (I : Inv σ) where
           let e : b ≡ σ .newest = omega (arith, I .numbers .none-newer b o) in
           rw e (omega (arith, I .logs .closes i m, I .chain .filled σ.newest (I .numbers .newest-opened)), refl)
 
+  -- a member that still promises its session was not restored since
+  pub unrestored : (s i : ℕ) → σ .opened s ≡ true → σ .member s i ≡ true → σ .promise i ≡ s → σ .restored i ≡ false
+  unrestored s i o m e = go (σ .restored i) refl
+    where
+      go : (b : Bool) → σ .restored i ≡ b → σ .restored i ≡ false
+      go false r = r
+      go true r = absurd (omega (arith, I .numbers .parted s i o m r))
+
+  -- up to the low-water mark, the newest session up to p has what the session has in whose time that mark was written
+  pub below-low : (p : ℕ) (c : Content) (w : Saved (σ .opened) (σ .start) (σ .log) p c) (b n : ℕ) → σ .opened b ≡ true → NewestUpTo (σ .opened) p b
+      → n ≤ c .low → (n ≤ σ .issued b) × (σ .log b n ≡ σ .log (w .session) n)
+  below-low p c w b n o top h = go (decLt (w .session) b)
+    where
+      go : Dec (w .session < b) → (n ≤ σ .issued b) × (σ .log b n ≡ σ .log (w .session) n)
+      go (yes l) = (
+        omega (arith, w .within, I .chain .rising (w .session) b (w .«open») o l, I .chain .filled b o),
+        sym (I .chain .agree (w .session) b n (w .«open») o l (λ u ou k. omega (arith, w .within, I .chain .rising (w .session) u (w .«open») ou k)) .1),
+      )
+      go (no l) =
+          let e : b ≡ w .session = omega (arith, top (w .session) (w .«open») (w .below)) in
+          (omega (arith, w .within, ap (σ .start) e, I .chain .filled b o), rw e)
+
   -- ---- a change of marks that an opening server heard: the opened sessions' rows stay
 
   module _ (s : ℕ) (p : σ .phase s ≡ Opening) (row : ℕ → ℕ) where
@@ -99,12 +122,22 @@ module _ (σ : State) (I : Inv σ) where
   -- ---- logs that became shorter
 
   pub logs-shorter : (mark′ : ℕ → ℕ) → ((j : ℕ) → mark′ j ≤ σ .mark j)
-      → Logs (σ .newest) (σ .closing) (σ .promise) mark′ (σ .place) (σ .opened) (σ .member) (σ .start) (σ .issued) (σ .log)
+      → Logs (σ .newest) (σ .closing) (σ .restored) (σ .promise) mark′ (σ .place) (σ .opened) (σ .member) (σ .start) (σ .issued) (σ .log)
   logs-shorter mark′ down = record {
-    prefix = λ j b n o m h l. I .logs .prefix j b n o m h (omega (arith, down j));
-    closed = λ j n m l h. I .logs .closed j n m (omega (arith, down j)) h;
+    prefix = λ j b n r o m h l. I .logs .prefix j b n r o m h (omega (arith, down j));
+    closed = λ j n r m l h. I .logs .closed j n r m (omega (arith, down j)) h;
     closes = I .logs .closes;
     later = I .logs .later;
+  }
+
+  pub lows-shorter : (mark′ : ℕ → ℕ) → ((j : ℕ) → mark′ j ≤ σ .mark j) → (j : ℕ)
+      → Saved (σ .opened) (σ .start) (σ .log) (σ .promise j) (record { mark = mark′ j; place = σ .place j; low = σ .low j })
+  lows-shorter mark′ down j = let w = I .lows j in record {
+    session = w .session;
+    below = w .below;
+    «open» = w .«open»;
+    within = w .within;
+    agrees = λ n l. w .agrees n (omega (arith, down j));
   }
 
   -- ---- a log that got the next of the log of session b, the newest up to the replica's promise
@@ -117,17 +150,32 @@ module _ (σ : State) (I : Inv σ) where
         let p = ap (σ .promise) q in
         omega (arith, n b o (omega arith), top c oc (omega (arith, I .numbers .joined c j oc m)))
 
-    pub logs-appended : Logs (σ .newest) (σ .closing) (σ .promise) (append-mark (σ .mark) i) (append-place (σ .place) (σ .mark) i x)
+    pub logs-appended : Logs (σ .newest) (σ .closing) (σ .restored) (σ .promise) (append-mark (σ .mark) i) (append-place (σ .place) (σ .mark) i x)
         (σ .opened) (σ .member) (σ .start) (σ .issued) (σ .log)
     logs-appended = record {
-      prefix = λ j c n oc m t k. ⊎-elim
-          (λ q. let w = I .logs .prefix j c n oc m t (q .0) in (w .0, q .1 ∙ w .1))
+      prefix = λ j c n r oc m t k. ⊎-elim
+          (λ q. let w = I .logs .prefix j c n r oc m t (q .0) in (w .0, q .1 ∙ w .1))
           (λ q. let d = same j c (q .0) oc m t in (rw (d, q .1) h, cc (q .2, e, q .1, d)))
           (append-cases (σ .place) (σ .mark) i x j n k);
-      closed = λ j n m k c. ⊎-elim
-          (λ q. q .1 ∙ I .logs .closed j n m (q .0) c)
+      closed = λ j n r m k c. ⊎-elim
+          (λ q. q .1 ∙ I .logs .closed j n r m (q .0) c)
           (λ q. let w = below-closing i b n (rw (q .0) m) o top (rw (q .0) c) in cc (q .2, q .1, e, w .1))
           (append-cases (σ .place) (σ .mark) i x j n k);
       closes = I .logs .closes;
       later = I .logs .later;
+    }
+
+    pub lows-appended : (j : ℕ) → Saved (σ .opened) (σ .start) (σ .log) (σ .promise j)
+        (record { mark = append-mark (σ .mark) i j; place = append-place (σ .place) (σ .mark) i x j; low = σ .low j })
+    lows-appended j = let w = I .lows j in record {
+      session = w .session;
+      below = w .below;
+      «open» = w .«open»;
+      within = w .within;
+      agrees = λ n k c. ⊎-elim
+          (λ q. q .1 ∙ w .agrees n (q .0) c)
+          (λ q.
+          let y = below-low (σ .promise j) (content σ j) w b n o (λ u ou m. top u ou (rw (q .0) m)) c in
+          cc (q .2, q .1, e, y .1))
+          (append-cases (σ .place) (σ .mark) i x j n k);
     }

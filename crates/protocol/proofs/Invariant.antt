@@ -9,8 +9,9 @@ use mathlib.Core.List.{List·Memᴰ}
 use Prim.Native.Nat.{ℕ, _≤_, _<_}
 use native.Mathlib.Decide.{ℕ-discrete, decLe}
 use Rattle.protocol.specs.Columns.{count}
-use Rattle.protocol.specs.State.{Tx, Clash, Phase, Opening, Open, State}
+use Rattle.protocol.specs.State.{Tx, Clash, Phase, Opening, Open, State, content}
 use Rattle.protocol.specs.Marks.{flagged?, reaches?}
+use Rattle.protocol.specs.Events.{Saved}
 
 -- ---- the words of the clauses
 
@@ -49,7 +50,7 @@ Holds place log issued j s n = (n ≤ issued s) × (place j n ≡ log s n)
 -- ---- the groups
 
 -- how session numbers and promises lie
-pub record Numbers (session newest : ℕ) (unresolved : ℕ → Bool) (promise : ℕ → ℕ)
+pub record Numbers (session newest : ℕ) (unresolved restored : ℕ → Bool) (promise : ℕ → ℕ)
     (phase : ℕ → Phase) (opened : ℕ → Bool) (member : ℕ → ℕ → Bool) : Type 0 where
   -- Only sessions that were taken are promised. So a replica that the register's session knows promises just that one.
   pub promise≤ : (i : ℕ) → promise i ≤ session
@@ -63,12 +64,14 @@ pub record Numbers (session newest : ℕ) (unresolved : ℕ → Bool) (promise :
   pub live : (s : ℕ) → phase s ≡ Open → opened s ≡ true
   -- A member promises its session or a newer one: an older session no longer writes on it.
   pub joined : (s j : ℕ) → opened s ≡ true → member s j ≡ true → s ≤ promise j
+  -- A restored one promises a newer one: its session, though open, neither writes on it nor hears of it again.
+  pub parted : (s j : ℕ) → opened s ≡ true → member s j ≡ true → restored j ≡ true → s < promise j
   -- The unresolved entries are the newest session's members: an open closes just those of them that it leaves out.
   pub entries : (i : ℕ) → unresolved i ≡ member newest i
 
 -- an opening session s, its base b, and the entries that its take handed over
-pub record Taken (session newest : ℕ) (closing promise : ℕ → ℕ) (opened : ℕ → Bool)
-    (member : ℕ → ℕ → Bool) (s b : ℕ) (unresolved : ℕ → Bool) (handed : ℕ → ℕ) : Type 0 where
+pub record Taken (session newest : ℕ) (closing : ℕ → ℕ) (restored : ℕ → Bool) (promise : ℕ → ℕ) (opened : ℕ → Bool)
+    (member : ℕ → ℕ → Bool) (s b : ℕ) (unresolved : ℕ → Bool) (handed : ℕ → ℕ) (handed-restored : ℕ → Bool) : Type 0 where
   -- It was taken: a session that is taken or opened later has a greater number.
   pub taken : s ≤ session
   -- Its base is opened: it has a log, of which the known replicas hold a part.
@@ -81,6 +84,12 @@ pub record Taken (session newest : ℕ) (closing promise : ℕ → ℕ) (opened 
   pub entries : (i : ℕ) → unresolved i ≡ member b i
   -- A closing mark still stands while the replica's promise is not above s. So prepare may truncate by an entry handed over long ago.
   pub shut : (i : ℕ) → member b i ≡ false → promise i ≤ s → (member newest i ≡ false) × (closing i ≡ handed i)
+  -- So does it that the entry is restored, or is not: a restore since then raised the promise above s, and so did what made it clean again.
+  pub marked : (i : ℕ) → promise i ≤ s → restored i ≡ handed-restored i
+
+abbrev pub TakenIn : State → ℕ → Type 0
+TakenIn σ s = Taken (σ .session) (σ .newest) (σ .closing) (σ .restored) (σ .promise) (σ .opened) (σ .member) s (σ .base s) (σ .handed-unresolved s)
+    (σ .handed-closing s) (σ .handed-restored s)
 
 -- which replicas a server knows
 pub record Known (session : ℕ) (promise : ℕ → ℕ) (phase : ℕ → Phase) (known : ℕ → ℕ → Bool) : Type 0 where
@@ -114,13 +123,14 @@ pub record Acks (R Q : ℕ) (promise : ℕ → ℕ) (recorded : ℕ → ℕ → 
   pub within : (s j : ℕ) → opened s ≡ true → member s j ≡ true → recorded s j ≤ issued s
 
 -- the logs of the replicas
-pub record Logs (newest : ℕ) (closing promise mark : ℕ → ℕ) (place : ℕ → ℕ → Tx) (opened : ℕ → Bool)
+pub record Logs (newest : ℕ) (closing : ℕ → ℕ) (restored : ℕ → Bool) (promise mark : ℕ → ℕ) (place : ℕ → ℕ → Tx) (opened : ℕ → Bool)
     (member : ℕ → ℕ → Bool) (start issued : ℕ → ℕ) (log : ℕ → ℕ → Tx) : Type 0 where
-  -- A member of the newest session up to its promise holds a part of that session's log. That session is the newest one for an unresolved
-  -- replica, and the base for one that an opening server has prepared, also where a newer session has since been opened.
-  pub prefix : (i b n : ℕ) → opened b ≡ true → member b i ≡ true → NewestUpTo opened (promise i) b → n ≤ mark i → Holds place log issued i b n
+  -- A member of the newest session up to its promise, if it was not restored since, holds a part of that session's log. That session is the newest
+  -- one for an unresolved replica, and the base for one that an opening server has prepared, also where a newer session has since been opened.
+  pub prefix : (i b n : ℕ) → restored i ≡ false → opened b ≡ true → member b i ≡ true → NewestUpTo opened (promise i) b → n ≤ mark i
+      → Holds place log issued i b n
   -- A resolved replica agrees with the newest log up to its closing mark: truncated to it, it holds nothing else.
-  pub closed : (i n : ℕ) → member newest i ≡ false → n ≤ mark i → n ≤ closing i → place i n ≡ log newest n
+  pub closed : (i n : ℕ) → restored i ≡ false → member newest i ≡ false → n ≤ mark i → n ≤ closing i → place i n ≡ log newest n
   -- Its closing mark is not above the newest starting mark: up to it the newest log has every ID.
   pub closes : (i : ℕ) → member newest i ≡ false → closing i ≤ start newest
   -- Nor above that of any session opened since its promise: what it keeps is in the log of the session that prepares it.
@@ -135,12 +145,12 @@ pub record Heard (promise mark : ℕ → ℕ) (place : ℕ → ℕ → Tx) (phas
   pub copied : (s j n : ℕ) → phase s ≡ Opening → known s j ≡ true → promise j ≡ s → n ≤ mark j → Holds place log issued j (base s) n
 
 -- a mark that fell, or was heard too low, is one that the newest session never acknowledges: the heart of the decision lemma
-pub record Votes (R Q newest : ℕ) (promise mark : ℕ → ℕ) (phase : ℕ → Phase)
-    (known : ℕ → ℕ → Bool) (recorded : ℕ → ℕ → ℕ) (member : ℕ → ℕ → Bool) : Type 0 where
-  -- A member holds less than it recorded only where a trim took what is unackable.
-  pub fell : (i m : ℕ) → member newest i ≡ true → mark i < m → m ≤ recorded newest i → Unackable R Q member recorded promise newest m
-  -- A newer opening server heard less of a member than that member recorded only where that is unackable.
-  pub missed : (s j m : ℕ) → phase s ≡ Opening → newest < s → known s j ≡ true → member newest j ≡ true
+pub record Votes (R Q newest : ℕ) (restored : ℕ → Bool) (promise mark : ℕ → ℕ) (phase : ℕ → Phase)
+    (handed-restored known : ℕ → ℕ → Bool) (recorded : ℕ → ℕ → ℕ) (member : ℕ → ℕ → Bool) : Type 0 where
+  -- A member that was not restored since holds less than it recorded only where a trim took what is unackable.
+  pub fell : (i m : ℕ) → restored i ≡ false → member newest i ≡ true → mark i < m → m ≤ recorded newest i → Unackable R Q member recorded promise newest m
+  -- A newer opening server, in whose vote a member counts, heard less of it than that member recorded only where that is unackable.
+  pub missed : (s j m : ℕ) → phase s ≡ Opening → newest < s → known s j ≡ true → handed-restored s j ≡ false → member newest j ≡ true
       → recorded s j < m → m ≤ recorded newest j → Unackable R Q member recorded promise newest m
 
 -- locks
@@ -155,13 +165,15 @@ pub record Locks (opened : ℕ → Bool) (start issued : ℕ → ℕ) (log : ℕ
 pub record Inv (σ : State) : Type 0 where
   -- A quorum is not empty: what is acknowledged was recorded by somebody.
   pub quorum : 0 < σ .Q
-  pub numbers : Numbers (σ .session) (σ .newest) (σ .unresolved) (σ .promise) (σ .phase) (σ .opened) (σ .member)
-  pub taken : (s : ℕ) → σ .phase s ≡ Opening
-      → Taken (σ .session) (σ .newest) (σ .closing) (σ .promise) (σ .opened) (σ .member) s (σ .base s) (σ .handed-unresolved s) (σ .handed-closing s)
+  pub numbers : Numbers (σ .session) (σ .newest) (σ .unresolved) (σ .restored) (σ .promise) (σ .phase) (σ .opened) (σ .member)
+  pub taken : (s : ℕ) → σ .phase s ≡ Opening → TakenIn σ s
   pub known : Known (σ .session) (σ .promise) (σ .phase) (σ .known)
   pub chain : Chain (σ .opened) (σ .start) (σ .issued) (σ .log)
   pub acks : Acks (σ .R) (σ .Q) (σ .promise) (σ .recorded) (σ .opened) (σ .member) (σ .start) (σ .issued) (σ .acknowledged)
-  pub logs : Logs (σ .newest) (σ .closing) (σ .promise) (σ .mark) (σ .place) (σ .opened) (σ .member) (σ .start) (σ .issued) (σ .log)
+  pub logs : Logs (σ .newest) (σ .closing) (σ .restored) (σ .promise) (σ .mark) (σ .place) (σ .opened) (σ .member) (σ .start) (σ .issued) (σ .log)
   pub heard : Heard (σ .promise) (σ .mark) (σ .place) (σ .phase) (σ .base) (σ .known) (σ .recorded) (σ .issued) (σ .log)
-  pub votes : Votes (σ .R) (σ .Q) (σ .newest) (σ .promise) (σ .mark) (σ .phase) (σ .known) (σ .recorded) (σ .member)
+  -- Up to its low-water mark a replica holds what an opened session started with, and so every later one: truncated to it, a restored replica has nothing
+  -- else. This never becomes false of what was held once, so that an earlier content may be brought back.
+  pub lows : (i : ℕ) → Saved (σ .opened) (σ .start) (σ .log) (σ .promise i) (content σ i)
+  pub votes : Votes (σ .R) (σ .Q) (σ .newest) (σ .restored) (σ .promise) (σ .mark) (σ .phase) (σ .handed-restored) (σ .known) (σ .recorded) (σ .member)
   pub locks : Locks (σ .opened) (σ .start) (σ .issued) (σ .log) (σ .estimate)

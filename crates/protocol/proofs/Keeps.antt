@@ -16,6 +16,8 @@ use Rattle.protocol.proofs.Keeps.Append.{append-inv}
 use Rattle.protocol.proofs.Keeps.Hear.{hear-inv}
 use Rattle.protocol.proofs.Keeps.Acknowledge.{acknowledge-inv}
 use Rattle.protocol.proofs.Keeps.Stop.{stop-inv}
+use Rattle.protocol.proofs.Keeps.Note.{note-inv}
+use Rattle.protocol.proofs.Keeps.Restore.{restore-inv}
 pub mod Take
 pub mod Promise
 pub mod Cut
@@ -29,6 +31,8 @@ pub mod Append
 pub mod Hear
 pub mod Acknowledge
 pub mod Stop
+pub mod Note
+pub mod Restore
 
 step-inv : {σ τ : State} → Step σ τ → Inv σ → Inv τ
 step-inv (Step.take σ) I = take-inv σ I
@@ -44,6 +48,8 @@ step-inv (Step.append σ s i x g) I = append-inv σ I s i x g
 step-inv (Step.hear σ s i g) I = hear-inv σ I s i g
 step-inv (Step.acknowledge σ s m g) I = acknowledge-inv σ I s m g
 step-inv (Step.stop σ s) I = stop-inv σ I s
+step-inv (Step.note σ s i g) I = note-inv σ I s i g
+step-inv (Step.restore σ i c g) I = restore-inv σ I i c g
 
 pub steps-inv : {σ τ : State} → Steps σ τ → Inv σ → Inv τ
 steps-inv Steps.none I = I

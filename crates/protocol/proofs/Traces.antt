@@ -7,13 +7,13 @@ use Prim.Native.Nat.{ℕ, suc, _+_, _-_, _≤_, _<_}
 use native.Mathlib.Omega.{arith}
 use native.Mathlib.Decide.{decLe}
 use Rattle.protocol.specs.Columns.{count}
-use Rattle.protocol.specs.State.{Tx, Opening, Open, State}
-use Rattle.protocol.specs.Marks.{flagged?, unflagged?, above?, reaches?, Decided, Reached}
-use Rattle.protocol.specs.Events.{after-take, after-promise, after-cut, after-learn, after-forget, after-copy, after-trim, after-open, after-issue, after-append, after-hear, after-acknowledge, Can-copy, Can-trim, Can-open, Can-issue, Can-append, Can-hear, Can-acknowledge, Step, Steps, _▸_}
+use Rattle.protocol.specs.State.{Tx, Opening, Open, State, Content}
+use Rattle.protocol.specs.Marks.{flagged?, unflagged?, above?, reaches?, voter, Decided, Reached}
+use Rattle.protocol.specs.Events.{after-take, after-promise, after-cut, after-learn, after-forget, after-copy, after-trim, after-open, after-issue, after-append, after-hear, after-acknowledge, after-note, after-restore, Can-copy, Can-trim, Can-open, Can-issue, Can-append, Can-hear, Can-acknowledge, Can-note, Can-restore, Step, Steps, _▸_}
 use Rattle.protocol.proofs.Columns.{upd-same, upd²-at, append-up}
 use Rattle.protocol.proofs.Counting.{count-mono, count-split}
 use Rattle.protocol.proofs.Invariant.{Inv}
-use Rattle.protocol.proofs.Facts.{not-both}
+use Rattle.protocol.proofs.Facts.{not-both, unrestored}
 
 -- ---- take and open
 
@@ -23,12 +23,12 @@ take-answered σ = Steps.none ▸ Step.take σ
 pub open-answered : (σ : State) (s D a : ℕ) → Can-open σ s D a → Steps σ (after-open σ s D a)
 open-answered σ s D a g = Steps.none ▸ Step.opens σ s D a g
 
--- "those of them reaching more, plus R minus the number known, are fewer than Q"
+-- "those of them reaching more, plus R minus the number known, are fewer than Q"; a restored replica "counts as absent"
 pub decided : (σ : State) (s D : ℕ)
-    → count (above? (σ .known s) (σ .recorded s) D) (σ .R) + (σ .R - count (flagged? (σ .known s)) (σ .R)) < σ .Q → Decided σ s D
+    → count (above? (voter σ s) (σ .recorded s) D) (σ .R) + (σ .R - count (flagged? (voter σ s)) (σ .R)) < σ .Q → Decided σ s D
 decided σ s D h = omega (
   arith,
-  count-split (flagged? (σ .known s)) (unflagged? (σ .known s)) (λ j k a. not-both k a) (λ j n. not-true (σ .known s j) n) (σ .R),
+  count-split (flagged? (voter σ s)) (unflagged? (voter σ s)) (λ j k a. not-both k a) (λ j n. not-true (voter σ s j) n) (σ .R),
 )
   where
     not-true : (b : Bool) → ¬ (b ≡ true) → b ≡ false
@@ -48,9 +48,9 @@ promised σ s i = after-promise (after-forget σ s i) s i
 abbrev pub prepared : State → ℕ → ℕ → ℕ → State
 prepared σ s i k = after-cut (promised σ s i) i k
 
--- an unresolved replica keeps its log
+-- an unresolved replica keeps its log, if it was not restored
 module _ (σ : State) (s i k : ℕ) (p : σ .phase s ≡ Opening) (below : σ .promise i ≤ s)
-    (kept : σ .handed-unresolved s i ≡ true → σ .mark i ≤ k) (down : k ≤ σ .mark i) where
+    (kept : σ .handed-restored s i ≡ false → σ .handed-unresolved s i ≡ true → σ .mark i ≤ k) (down : k ≤ σ .mark i) where
   pub prepare-silent : Steps σ (prepared σ s i k)
   prepare-silent = forgotten σ s i
       ▸ Step.promise (after-forget σ s i) s i (record { phase = p; below = below })
@@ -62,10 +62,16 @@ module _ (σ : State) (s i k : ℕ) (p : σ .phase s ≡ Opening) (below : σ .p
         down = down;
       })
 
-  -- nothing is left above the closing mark
-  pub prepare-answered : (σ .handed-unresolved s i ≡ false → k ≤ σ .handed-closing s i) → Steps σ (after-learn (prepared σ s i k) s i)
-  prepare-answered whole = prepare-silent
-      ▸ Step.learn (prepared σ s i k) s i (record { phase = p; promise = upd-same (σ .promise) i s; whole = λ e. rw (upd-same (σ .mark) i k) (whole e) })
+  -- nothing is left above the closing mark; of a restored replica nothing above its low-water mark
+  pub prepare-answered : (σ .handed-restored s i ≡ false → σ .handed-unresolved s i ≡ false → k ≤ σ .handed-closing s i)
+      → (σ .handed-restored s i ≡ true → k ≤ σ .low i) → Steps σ (after-learn (prepared σ s i k) s i)
+  prepare-answered whole low = prepare-silent
+      ▸ Step.learn (prepared σ s i k) s i (record {
+        phase = p;
+        promise = upd-same (σ .promise) i s;
+        whole = λ r e. rw (upd-same (σ .mark) i k) (whole r e);
+        low = λ r. rw (upd-same (σ .mark) i k) (low r);
+      })
 
 -- ---- copy while opening, and trim
 
@@ -90,7 +96,8 @@ issue-answered σ s x e g = Steps.none ▸ Step.issue σ s x e g
 pub copy-is-send : (σ : State) → Inv σ → (s a b : ℕ) → σ .phase s ≡ Open → σ .member s a ≡ true → σ .promise a ≡ s
     → σ .member s b ≡ true → σ .promise b ≡ s → σ .mark b < σ .mark a → Can-append σ s b (σ .place a (suc (σ .mark b)))
 copy-is-send σ I s a b p ma pa mb pb l =
-    let h = I .logs .prefix a s (suc (σ .mark b)) (I .numbers .live s p) ma (λ u o n. omega arith) l in
+    let o = I .numbers .live s p in
+    let h = I .logs .prefix a s (suc (σ .mark b)) (unrestored σ I s a o ma pa) o ma (λ u o n. omega arith) l in
     record { phase = p; member = mb; promise = pb; issued = h .0; next = h .1 }
 
 -- a mark that is reached, and the next is not, is the highest
@@ -115,3 +122,11 @@ module _ (σ : State) (s i : ℕ) (x : Tx) (g : Can-append σ s i x) where
     where
       heard : Can-hear (after-append σ i x) s i
       heard = record { phase = g .phase; member = g .member; promise = g .promise; up = omega (arith, append-up (σ .mark) i i) }
+
+-- ---- note and restore
+
+pub noted : (σ : State) (s i : ℕ) → Can-note σ s i → Steps σ (after-note σ s i)
+noted σ s i g = Steps.none ▸ Step.note σ s i g
+
+pub restored : (σ : State) (i : ℕ) (c : Content) → Can-restore σ c → Steps σ (after-restore σ i c)
+restored σ i c g = Steps.none ▸ Step.restore σ i c g

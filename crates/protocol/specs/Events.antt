@@ -12,7 +12,9 @@
 --   issue        issue s x e
 --   send i       append s i x, if the place became valid; hear s i, if answered; acknowledge s m in any case.
 --   stop         stop s
---   note, read, reassign: none, whatever the fate. Declined and answered: none.
+--   note i       note s i, if the slot that it writes is the current one then; else none
+--   restore i    restore i c, where c is what the bytes hold; no server, no fate
+--   read, export, reassign: none, whatever the fate. Declined and answered: none.
 --   Declined (18, 19, 20, 22) and not answered: forget s i (opening), acknowledge s m (send and copy while open), stop s (open).
 --
 -- A write that is cut may leave the old, the new, or torn bytes: a torn slot leaves the promise as it was, a torn wipe counts as done, a torn record as
@@ -21,7 +23,7 @@
 -- A guard (Can-..) is what the named refusal leaves when it is not met. The guards ask only what the guarantee rests on, so that more is allowed
 -- than the calls do. Left out: that marks are within N (2, 14); that a dropped member is not used again (7); a request's generation,
 -- acknowledged client mark, size and header (10, 11, 12, 28); how many records are in flight (13), and which records the server still holds (16); the
--- interval (23).
+-- interval (23); that an opening server copies from no restored replica (17).
 --
 -- Document 02, No. 5: "A server stopped with records in flight is one more case that the recovery guarantee has to cover, whichever of the eight reached
 -- whom." No event knows of eight. append is of any ID of the session that follows the replica's log, for any member at any time, and stop may come after
@@ -29,12 +31,12 @@
 -- records may have reached the replicas is a list of events.
 -- Assumes nothing.
 use mathlib.Core.Path.{_≡_}
-use mathlib.Core.Bool.{true, false, cond}
+use mathlib.Core.Bool.{Bool, true, false, not, cond, _&&_}
 use mathlib.Core.List.{List·Memᴰ}
 use Prim.Native.Nat.{ℕ, suc, _≤_, _<_}
 use Rattle.protocol.specs.Columns.{upd, upd², append-mark, append-place, count}
-use Rattle.protocol.specs.State.{Tx, Idle, Opening, Open, State}
-use Rattle.protocol.specs.With.{with-register, with-replicas, with-servers, with-handed, with-opened, with-logs}
+use Rattle.protocol.specs.State.{Tx, Idle, Opening, Open, State, Content}
+use Rattle.protocol.specs.With.{with-register, with-replicas, with-low, with-servers, with-handed, with-opened, with-logs}
 use Rattle.protocol.specs.Marks.{flagged?, Decided, clean, Reached}
 
 -- ---- take: "raises the session by 1, hands the server that number, the generation and the entries; the server is opening and knows no replica"
@@ -42,9 +44,10 @@ use Rattle.protocol.specs.Marks.{flagged?, Decided, clean, Reached}
 abbrev pub after-take : State → State
 after-take σ =
     let s = suc (σ .session) in
-    let registered = with-register σ s (σ .newest) (σ .unresolved) (σ .closing) in
+    let registered = with-register σ s (σ .newest) (σ .unresolved) (σ .closing) (σ .restored) in
     let served = with-servers registered (upd (σ .phase) s Opening) (σ .known) (σ .recorded) in
     with-handed served (upd (σ .base) s (σ .newest)) (upd (σ .handed-unresolved) s (σ .unresolved)) (upd (σ .handed-closing) s (σ .closing))
+    (upd (σ .handed-restored) s (σ .restored))
 
 -- ---- promise, the first of prepare: "the replica writes a slot with the new promise, other fields kept, unless the promise is equal"
 
@@ -55,7 +58,8 @@ pub record Can-promise (σ : State) (s i : ℕ) : Type 0 where
   pub phase : σ .phase s ≡ Opening
   pub below : σ .promise i ≤ s  -- 19: "Its promise is above the session (prepare)"
 
--- ---- cut, the second of prepare: "then truncates to the entry's closing mark if there is one". The log of i becomes k long.
+-- ---- cut, the second of prepare: "then truncates to the entry's closing mark if there is one"; document 02, No. 10: "Preparing a restored replica
+-- truncates to its low-water mark." The entry is the one that take handed over. The log of i becomes k long.
 
 abbrev pub after-cut : State → ℕ → ℕ → State
 after-cut σ i k = with-replicas σ (σ .promise) (upd (σ .mark) i k) (σ .place)
@@ -64,7 +68,8 @@ pub record Can-cut (σ : State) (s i k : ℕ) : Type 0 where
   pub phase : σ .phase s ≡ Opening
   pub promise : σ .promise i ≡ s
   pub unknown : σ .known s i ≡ false  -- it was forgotten first: no recorded mark is read while the log shrinks
-  pub kept : σ .handed-unresolved s i ≡ true → σ .mark i ≤ k  -- an unresolved replica keeps its log, whatever low-water mark it stores
+  -- an unresolved replica that is not restored keeps its log, whatever low-water mark it stores
+  pub kept : σ .handed-restored s i ≡ false → σ .handed-unresolved s i ≡ true → σ .mark i ≤ k
   pub down : k ≤ σ .mark i
 
 -- ---- learn, the last of prepare: "it answers its mark and is known"
@@ -75,7 +80,9 @@ after-learn σ s i = with-servers σ (σ .phase) (upd² (σ .known) s i true) (u
 pub record Can-learn (σ : State) (s i : ℕ) : Type 0 where
   pub phase : σ .phase s ≡ Opening
   pub promise : σ .promise i ≡ s
-  pub whole : σ .handed-unresolved s i ≡ false → σ .mark i ≤ σ .handed-closing s i  -- the truncation came to its end
+  -- the truncation came to its end
+  pub whole : σ .handed-restored s i ≡ false → σ .handed-unresolved s i ≡ false → σ .mark i ≤ σ .handed-closing s i
+  pub low : σ .handed-restored s i ≡ true → σ .mark i ≤ σ .low i  -- "to its low-water mark"
 
 -- ---- forget: "an opening server forgets the replica (not known, recorded mark 0)". The mark stays here; nothing reads it until the next learn.
 
@@ -116,10 +123,12 @@ pub record Can-trim (σ : State) (s i D k : ℕ) : Type 0 where
 -- ---- opens: "the register sets clean entries to this session, unresolved; other unresolved entries get the mark as closing mark; the rest
 -- remain. The mark is the session's starting mark, its lock table is filled with it, issued = acknowledged = it, clean replicas are its
 -- members". The mark is D. The log is, up to it, "what then stands on a replica whose entry this call sets to the session": on a, any of these.
+-- Document 02, No. 10: "If it stands at the decided mark at open it counts as clean and the entry is ordinary; otherwise it stays restored."
 
 abbrev pub after-open : State → ℕ → ℕ → ℕ → State
 after-open σ s D a =
-    let registered = with-register σ (σ .session) s (clean σ s D) (λ i. cond (σ .unresolved i) D (σ .closing i)) in
+    let restored : ℕ → Bool = λ i. not (clean σ s D i) && σ .restored i in
+    let registered = with-register σ (σ .session) s (clean σ s D) (λ i. cond (σ .unresolved i) D (σ .closing i)) restored in
     let served = with-servers registered (upd (σ .phase) s Open) (σ .known) (σ .recorded) in
     let started = with-opened served (upd (σ .opened) s true) (upd (σ .member) s (clean σ s D)) (upd (σ .start) s D) (upd (σ .acknowledged) s D) in
     with-logs started (upd (σ .issued) s D) (upd (σ .log) s (σ .place a)) (upd (σ .estimate) s (λ l. D))
@@ -182,6 +191,39 @@ pub record Can-acknowledge (σ : State) (s m : ℕ) : Type 0 where
 abbrev pub after-stop : State → ℕ → State
 after-stop σ s = with-servers σ (upd (σ .phase) s Idle) (σ .known) (σ .recorded)
 
+-- ---- note: "writes a slot with the promise kept, the starting mark as low-water and i's mark as local low-water". The local one is not read.
+
+abbrev pub after-note : State → ℕ → ℕ → State
+after-note σ s i = with-low σ (upd (σ .low) i (σ .start s))
+
+pub record Can-note (σ : State) (s i : ℕ) : Type 0 where
+  pub phase : σ .phase s ≡ Open
+  pub member : σ .member s i ≡ true  -- 7
+  pub promise : σ .promise i ≡ s  -- 19
+
+-- ---- restore: document 02, No. 10: "writes them over it, raises the register's session, marks the entry restored (its session kept) and writes that
+-- session as promise in both slots, with the current slot's low-water marks, as one step without fate". c is what the bytes hold. No server gets the
+-- raised session.
+
+abbrev pub after-restore : State → ℕ → Content → State
+after-restore σ i c =
+    let t = suc (σ .session) in
+    let registered = with-register σ t (σ .newest) (σ .unresolved) (σ .closing) (upd (σ .restored) i true) in
+    let written = with-replicas registered (upd (σ .promise) i t) (upd (σ .mark) i (c .mark)) (upd (σ .place) i (c .place)) in
+    with-low written (upd (σ .low) i (c .low))
+
+-- What the guarantee rests on of the bytes: up to their low-water mark they are in the log of a session, of a number up to p, that started there or above.
+-- So are "bytes that the same replica held between two earlier calls" (proofs/Backups.antt `earlier`); that it is the same replica is not used.
+pub record Saved (opened : ℕ → Bool) (start : ℕ → ℕ) (log : ℕ → ℕ → Tx) (p : ℕ) (c : Content) : Type 0 where
+  pub session : ℕ
+  pub below : session ≤ p
+  pub «open» : opened session ≡ true
+  pub within : c .low ≤ start session
+  pub agrees : (n : ℕ) → n ≤ c .mark → n ≤ c .low → c .place n ≡ log session n
+
+abbrev pub Can-restore : State → Content → Type 0
+Can-restore σ = Saved (σ .opened) (σ .start) (σ .log) (σ .session)
+
 -- ---- an event, and a list of events
 
 pub data Step : State → State → Type 0 where
@@ -198,6 +240,8 @@ pub data Step : State → State → Type 0 where
   hear : (σ : State) (s i : ℕ) → Can-hear σ s i → Step σ (after-hear σ s i)
   acknowledge : (σ : State) (s m : ℕ) → Can-acknowledge σ s m → Step σ (after-acknowledge σ s m)
   stop : (σ : State) (s : ℕ) → Step σ (after-stop σ s)
+  note : (σ : State) (s i : ℕ) → Can-note σ s i → Step σ (after-note σ s i)
+  restore : (σ : State) (i : ℕ) (c : Content) → Can-restore σ c → Step σ (after-restore σ i c)
 
 infixl 20 _▸_
 pub data Steps (σ : State) : State → Type 0 where

@@ -2,7 +2,7 @@
 -- Assumes nothing.
 use mathlib.Core.Path.{_≡_}
 use mathlib.Core.Logic.{Dec·and}
-use mathlib.Core.Bool.{Bool, true, false, _&&_, Bool-discrete}
+use mathlib.Core.Bool.{Bool, true, false, not, _&&_, Bool-discrete}
 use Prim.Native.Nat.{ℕ, _+_, _≤_, _<_}
 use native.Mathlib.Decide.{decLe, decLt}
 use lib.Dec.{eqb}
@@ -23,12 +23,16 @@ above? flag mark D j = Dec·and (flagged? flag j) (decLt D (mark j))
 abbrev pub reaches? : (flag : ℕ → Bool) (mark : ℕ → ℕ) (m j : ℕ) → Dec ((flag j ≡ true) × (m ≤ mark j))
 reaches? flag mark m j = Dec·and (flagged? flag j) (decLe m (mark j))
 
+-- whose mark counts in the vote of s. Document 02, No. 10: a restored replica "counts as absent in the vote", by the entry that take handed over.
+abbrev pub voter : State → ℕ → ℕ → Bool
+voter σ s j = σ .known s j && not (σ .handed-restored s j)
+
 -- "Decided: at least Q are known, and those of them reaching more, plus R minus the number known, are fewer than Q."
 -- That at least Q are known follows from the rest, since R = 2 Q − 1; the guarantee does not use it.
 abbrev pub Decided : State → ℕ → ℕ → Type 0
-Decided σ s D = count (above? (σ .known s) (σ .recorded s) D) (σ .R) + count (unflagged? (σ .known s)) (σ .R) < σ .Q
+Decided σ s D = count (above? (voter σ s) (σ .recorded s) D) (σ .R) + count (unflagged? (voter σ s)) (σ .R) < σ .Q
 
--- "known replicas exactly at it (the clean ones)"
+-- "known replicas exactly at it (the clean ones)"; document 02, No. 10: a restored one too, if it "stands at the decided mark at open"
 abbrev pub clean : State → ℕ → ℕ → ℕ → Bool
 clean σ s D j = σ .known s j && eqb (σ .recorded s j) D
 

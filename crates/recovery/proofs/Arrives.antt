@@ -1,9 +1,10 @@
 -- That a recovery arrives: `arrives : Arrives`. The statement is specs/Arrival.antt.
 -- Why: the take is answered; every listed replica that has a valid slot and no higher promise is known after its prepare (Preparing), with a mark that its medium
--- has and no valid place above it; each copy then brings one record (Copying); so all known ones come to stand at the highest mark and none above it, and those
--- that are absent are fewer than Q: the mark is decided, and Q are clean (Opening).
+-- has and no valid place above it; each copy then brings one record (Copying), from a source that votes, since at least Q of them are not restored; so all that
+-- vote come to stand at the highest mark of them and none above it, and those that are absent, restored ones among them, are fewer than Q: the mark is decided,
+-- and Q are clean (Opening).
 -- Assumes nothing.
-use mathlib.Core.Path.{_≡_, refl, sym, ap, _∙_, subst, subst⁻¹}
+use mathlib.Core.Path.{_≡_, refl, sym, ap, ap₂, _∙_, subst, subst⁻¹}
 use mathlib.Core.Bool.{Bool, true, false, not, cond, _&&_, false≢true}
 use mathlib.Core.Logic.{inl, inr, ⊎-elim}
 use mathlib.Core.List.{List, []}
@@ -23,18 +24,20 @@ use Rattle.storage.specs.Log.{Sound}
 use Rattle.storage.specs.Operations.{mediumAt}
 use Rattle.quorum.specs.Vote.{quorum}
 use Rattle.cluster.specs.declared.Shape.{Shape}
-use Rattle.cluster.specs.State.{State, markAt, activeAt, votesAt}
+use Rattle.cluster.specs.declared.Entry.{Entry}
+use Rattle.cluster.specs.State.{State, entryAt, markAt, activeAt, isRestored, restoredAt, votesAt}
 use Rattle.cluster.specs.Refusals.{Input, noSlot, promiseAbove, refusesPrepare, rowsOf, pass, firstOf}
 use Rattle.cluster.proofs.AsStored.{media-size}
 use Rattle.recovery.specs.Recovery.{Recovery, Trail, fateAt, one, played, taking, opening, isOk, serverOf, prepares, firstAt, catchingUp, afterTake, fromTake, contains, recoveryRows, begun, callsOf, recovered}
-use Rattle.recovery.specs.Arrival.{Typed, ready, taken, prepared, highestMark, lacking, Met, Arrived, Arrives}
+use Rattle.recovery.specs.Arrival.{Typed, ready, counts, taken, prepared, highestMark, lacking, Met, Arrived, Arrives}
 use Rattle.recovery.proofs.Counts.{played-count, played-more}
 use Rattle.recovery.proofs.Played.{prepares-length, afterTake-is}
 use Rattle.recovery.proofs.Steady.{medium-size}
 use Rattle.recovery.proofs.Own.{Admitted, own, take-rows}
 use Rattle.recovery.proofs.Listed.{listed-below}
 use Rattle.recovery.proofs.Highest.{highest-ge, Has, source-has, many-listed}
-use Rattle.recovery.proofs.Underway.{Underway, Good, taken-underway, taken-none, taken-media, taken-reply}
+use Rattle.recovery.proofs.Underway.{Underway, Good, taken-underway, taken-none, taken-entries, taken-media, taken-reply}
+use Rattle.recovery.proofs.Staying.{entries-prepares, entries-all}
 use Rattle.recovery.proofs.Preparing as preparing
 use Rattle.recovery.proofs.Copying as copying
 use Rattle.recovery.proofs.Opening.{Odd, odd-replicas, opens, is-open}
@@ -112,6 +115,10 @@ module _ (h : Shape) (x : State) (d : Recovery) (T : Typed x) (M : Met h x d) wh
   unfolding begun
   unknown₁ = taken-none h d t₀ (A .steady) (T .servers) take-passes takes (M .below-top) (A .server)
 
+  entries₁ : serverOf d t₁ .entries ≡ x .records .register .entries
+  unfolding begun
+  entries₁ = taken-entries h d t₀ (A .steady) (T .servers) take-passes takes (M .below-top) (A .server)
+
   media₁ : t₁ .state .media ≡ x .media
   unfolding begun
   media₁ = taken-media h d t₀ (A .steady) (T .servers) take-passes takes (M .below-top)
@@ -164,18 +171,27 @@ module _ (h : Shape) (x : State) (d : Recovery) (T : Typed x) (M : Met h x d) wh
       go true q = absurd (false≢true (sym (P .tried i (known-listed i e) .refused q) ∙ e))
       go false q = P .tried i (known-listed i e) .good q
 
-  -- who is ready is known afterwards, so at least Q are
-  ready-known : (i : ℕ) → contains (d .listed) i ≡ true → ready h x i ≡ true → votesAt (serverOf d t₂) i ≡ true
+  -- who is ready is known afterwards, and votes unless it is restored, so at least Q do
+  ready-known : (i : ℕ) → contains (d .listed) i ≡ true → ready h x i ≡ true → activeAt (serverOf d t₂) i ≡ true
   ready-known i e r =
       let m = mediumAt N i (x .media) in
       let b = both (not (noSlot m)) (not (promiseAbove new m)) r in
       let passes : refusesPrepare new m ≡ false = rw (not-true (noSlot m) (b .0), not-true (promiseAbove new m) (b .1)) in
       P .tried i e .good (ap (λ (z : List ℕ). refusesPrepare new (mediumAt N i z)) media₁ ∙ passes) .active
 
+  -- the take handed the register's entries over, and no prepare changes them
+  restored₂ : (i : ℕ) → restoredAt (serverOf d t₂) i ≡ isRestored (entryAt (x .records .register .entries) i .closing)
+  restored₂ i = ap (λ (es : List Entry). isRestored (entryAt es i .closing)) (entries-prepares h d t₁ (d .listed) ∙ entries₁)
+
+  counts-votes : (i : ℕ) → contains (d .listed) i ≡ true → counts h x i ≡ true → votesAt (serverOf d t₂) i ≡ true
+  counts-votes i e r =
+      let b = both (ready h x i) (not (isRestored (entryAt (x .records .register .entries) i .closing))) r in
+      rw (ready-known i e (b .0), restored₂ i, not-true (isRestored (entryAt (x .records .register .entries) i .closing)) (b .1))
+
   many : quorum (h .replicas) ≤ count (votesAt (serverOf d t₂)) (h .replicas)
   many =
       let v = serverOf d t₂ in
-      let a = many-listed (ready h x) (votesAt v) (h .replicas) (d .listed) (A .once) (A .below) ready-known in
+      let a = many-listed (counts h x) (votesAt v) (h .replicas) (d .listed) (A .once) (A .below) counts-votes in
       let b = count-mono (λ i. votesAt v i && contains (d .listed) i) (votesAt v) (h .replicas) (λ i l. less (votesAt v i) (contains (d .listed) i)) in
       omega (arith, M .enough, a, b)
     where
@@ -189,26 +205,32 @@ module _ (h : Shape) (x : State) (d : Recovery) (T : Typed x) (M : Met h x d) wh
   abbrev mark : ℕ
   mark = highestMark h x d
 
-  -- one is known, so the first of those at the highest mark is a source
+  -- who votes is known, and not restored
+  is-known : (i : ℕ) → votesAt (serverOf d t₂) i ≡ true → activeAt (serverOf d t₂) i ≡ true
+  is-known i e = both (activeAt (serverOf d t₂) i) (not (restoredAt (serverOf d t₂) i)) e .0
+
+  -- one votes, so the first of those at the highest mark is a source
   abbrev a : ℕ
   a = firstAt (serverOf d t₂) mark (d .listed)
 
   has-mark : Has (serverOf d t₂) (d .listed) mark a
   has-mark =
       let some = count-some (votesAt (serverOf d t₂)) (h .replicas) (omega (arith, many, o .least)) in
-      source-has (serverOf d t₂) (d .listed) (some .0) (known-listed (some .0) (some .2)) (some .2)
+      source-has (serverOf d t₂) (d .listed) (some .0) (known-listed (some .0) (is-known (some .0) (some .2))) (some .2)
 
   below : a < h .replicas
   below = listed-below (h .replicas) a (d .listed) (A .below) (has-mark .listed)
 
   source : copying.Source h d new (o .most) a below mark t₂
-  source = (known-good a (has-mark .active), has-mark .mark-is)
+  source =
+      let b = both (activeAt (serverOf d t₂) a) (not (restoredAt (serverOf d t₂) a)) (has-mark .votes) in
+      (known-good a (b .0), has-mark .mark-is, not-true (restoredAt (serverOf d t₂) a) (b .1))
 
   before : (b : ℕ) → contains (d .listed) b ≡ true → copying.Before h d new (o .most) a below mark t₂ b
   before b e = go (activeAt (serverOf d t₂) b) refl
     where
       go : (k : Bool) → activeAt (serverOf d t₂) b ≡ k → copying.Before h d new (o .most) a below mark t₂ b
-      go true q = inl (known-good b q, highest-ge (serverOf d t₂) (d .listed) b e q)
+      go true q = inl (known-good b q)
       go false q = inr q
 
   C : copying.All h d new (o .most) a below mark t₂ (d .listed)
@@ -216,13 +238,23 @@ module _ (h : Shape) (x : State) (d : Recovery) (T : Typed x) (M : Met h x d) wh
 
   -- ---- the open
 
-  all-there : (i : ℕ) → i < h .replicas → activeAt (serverOf d t₃) i ≡ true → markAt (serverOf d t₃) i ≡ mark
+  -- the same replicas vote as before the copies
+  still-votes : (i : ℕ) → votesAt (serverOf d t₃) i ≡ votesAt (serverOf d t₂) i
+  still-votes i =
+      let es = entries-all h d t₂ a mark (d .listed) in
+      ap₂ (λ (b : Bool) (z : List Entry). b && not (isRestored (entryAt z i .closing))) (C .known i) es
+
+  -- one that votes stood at the highest mark of them or below it
+  all-there : (i : ℕ) → i < h .replicas → votesAt (serverOf d t₃) i ≡ true → markAt (serverOf d t₃) i ≡ mark
   all-there i l e =
-      ⊎-elim (λ (g, q). q) (λ q. absurd (false≢true (sym q ∙ e))) (C .there i (known-listed i (sym (C .known i) ∙ e)))
+      let voted = sym (still-votes i) ∙ e in
+      let listed = known-listed i (is-known i voted) in
+      let below = highest-ge (serverOf d t₂) (d .listed) i listed voted in
+      ⊎-elim (λ (g, q). omega (arith, q, below)) (λ q. absurd (false≢true (sym q ∙ C .known i ∙ is-known i voted))) (C .there i listed)
 
   still-many : quorum (h .replicas) ≤ count (votesAt (serverOf d t₃)) (h .replicas)
   still-many =
-      let same = count-same (h .replicas) (votesAt (serverOf d t₃)) (votesAt (serverOf d t₂)) (λ i l. C .known i) in
+      let same = count-same (h .replicas) (votesAt (serverOf d t₃)) (votesAt (serverOf d t₂)) (λ i l. still-votes i) in
       omega (arith, many, same)
 
   opened : fateAt d (t₃ .count) ≡ Answered

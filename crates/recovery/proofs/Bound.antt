@@ -13,7 +13,7 @@ use Rattle.base.specs.Below.{count}
 use Rattle.base.proofs.Below.{count-le}
 use Rattle.cluster.specs.declared.Shape.{Shape}
 use Rattle.cluster.specs.declared.Server.{Server}
-use Rattle.cluster.specs.State.{State, markAt, activeAt}
+use Rattle.cluster.specs.State.{State, markAt, activeAt, votesAt}
 use Rattle.cluster.specs.Refusals.{Verdict, pass, declined, firstOf}
 use Rattle.cluster.proofs.Marks.{marks-fit}
 use Rattle.recovery.specs.Recovery.{Recovery, Trail, one, played, preparing, copying, opening, isOk, serverOf, prepares, highestKnown, firstAt, copies, lacks, copiesTo, allCopies, catchingUp, afterTake, fromTake, contains, repeats, notBelow, recoveryRows, begun, unlessDeclined, callsOf, recovered}
@@ -54,11 +54,11 @@ unfolding highestKnown
 highest-le h v [] below f = omega arith
 highest-le h v (i ∷ is) below f =
     let l = first-below (h .replicas) i is below in
-    omega (arith, highest-le h v is (l .1) f, known (activeAt v i) (f i (l .0)))
+    omega (arith, highest-le h v is (l .1) f, at-most (votesAt v i) (f i (l .0)))
   where
-    known : (b : Bool) → markAt v i ≤ h .places → cond b (markAt v i) 0 ≤ h .places
-    known true q = q
-    known false q = omega arith
+    at-most : (b : Bool) → markAt v i ≤ h .places → cond b (markAt v i) 0 ≤ h .places
+    at-most true q = q
+    at-most false q = omega arith
 
 pub steady-prepares : (h : Shape) (d : Recovery) (is : List ℕ) (t : Trail) → Steady h (t .state) → Steady h (played h t (prepares h d t is) .state)
 unfolding played prepares

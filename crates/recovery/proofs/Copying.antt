@@ -1,11 +1,11 @@
--- A copy from one good replica to another that is below it, answered: that one has one record more, and both are good still. Then the copies of one replica, and
--- those of all.
+-- A copy from one good replica that is not restored to another that is below it, answered: that one has one record more, and both are good still. Then the copies
+-- of one replica, and those of all; a replica above the mark, which a restored one may be, gets none.
 -- Assumes nothing.
 use mathlib.Core.Path.{_≡_, refl, sym, ap, ap₂, _∙_, subst, subst⁻¹}
 use mathlib.Core.Bool.{true, false, not, cond, false≢true}
 use mathlib.Core.Logic.{_⊎_, inl, inr, ⊎-elim}
 use mathlib.Core.List.{List, [], _∷_}
-use Prim.Native.Nat.{ℕ, zero, suc, _+_, _*_, _≤_, _<_}
+use Prim.Native.Nat.{ℕ, zero, suc, _+_, _*_, _≤_, _<_, max}
 use native.Mathlib.Omega.{arith}
 use native.Mathlib.Decide.{ℕ-discrete}
 use lib.ListN.{length, length-append}
@@ -25,8 +25,9 @@ use Rattle.storage.proofs.Scan.{mark-le, log-valid}
 use Rattle.storage.proofs.Truncating.{mark-is}
 use Rattle.storage.proofs.Promises.{Appended, appends}
 use Rattle.cluster.specs.declared.Shape.{Shape}
+use Rattle.cluster.specs.declared.Entry.{Entry}
 use Rattle.cluster.specs.declared.Server.{Server}
-use Rattle.cluster.specs.State.{State, markAt, activeAt}
+use Rattle.cluster.specs.State.{State, entryAt, markAt, activeAt, isRestored, restoredAt}
 use Rattle.cluster.specs.Replies.{ok}
 use Rattle.cluster.specs.Refusals.{Input, isNeither, noSlot, promiseDiffers, markDiffers, rowsOf, pass, firstOf}
 use Rattle.cluster.specs.Effects.{withReplica, withMediumAndServer, appendEffect}
@@ -38,6 +39,7 @@ use Rattle.recovery.proofs.Steady.{steady-copy, medium-size}
 use Rattle.recovery.proofs.Counts.{played-more, played-join}
 use Rattle.recovery.proofs.Listed.{first-unique, first-below, first-in, later-in, not-first, in-either, differs}
 use Rattle.recovery.proofs.Underway.{Underway, Good, Same, same-state, same-then, still-good, heard-underway, heard-other, heard-now, heard-good}
+use Rattle.recovery.proofs.Staying.{entries-copy, entries-copies}
 use Rattle.recovery.proofs.Preparing.{harmless}
 
 -- ---- a good replica does not decline
@@ -67,7 +69,7 @@ module _ (h : Shape) (d : Recovery) (new : ℕ) (t : Trail) (U : Underway h d ne
 
 module _ (h : Shape) (d : Recovery) (new : ℕ) (seven : h .replicas ≤ 7) (t : Trail) (U : Underway h d new t) (a b : ℕ)
     (la : a < h .replicas) (lb : b < h .replicas) (ga : Good h d new t a) (gb : Good h d new t b)
-    (below : markAt (serverOf d t) b < markAt (serverOf d t) a) (ans : fateAt d (t .count) ≡ Answered) where
+    (below : markAt (serverOf d t) b < markAt (serverOf d t) a) (fit : restoredAt (serverOf d t) a ≡ false) (ans : fateAt d (t .count) ≡ Answered) where
   abbrev x : State
   x = t .state
 
@@ -101,6 +103,7 @@ module _ (h : Shape) (d : Recovery) (new : ℕ) (seven : h .replicas ≤ 7) (t :
         ga .active,
         gb .active,
         lt-ltb (markAt v b) (markAt v a) below,
+        fit,
         slot-there (mediumAt N a (x .media)) (ga .slot),
         good-promise h d new t U a ga,
         good-mark h d new t U a ga,
@@ -171,9 +174,13 @@ module _ (h : Shape) (d : Recovery) (new : ℕ) (seven : h .replicas ≤ 7) (t :
 -- ---- all copies of one replica
 
 module _ (h : Shape) (d : Recovery) (new : ℕ) (seven : h .replicas ≤ 7) (a : ℕ) (la : a < h .replicas) (mark : ℕ) where
-  -- a is a good replica at the mark
+  -- a is a good replica at the mark, and not restored
   abbrev pub Source : Trail → Type 0
-  Source t = Good h d new t a × (markAt (serverOf d t) a ≡ mark)
+  Source t = Good h d new t a × (markAt (serverOf d t) a ≡ mark) × (restoredAt (serverOf d t) a ≡ false)
+
+  -- who is restored stays so as long as the entries do
+  restored-still : (t u : Trail) → serverOf d u .entries ≡ serverOf d t .entries → restoredAt (serverOf d t) a ≡ false → restoredAt (serverOf d u) a ≡ false
+  restored-still t u e q = ap (λ (es : List Entry). isRestored (entryAt es a .closing)) e ∙ q
 
   abbrev Answers : Trail → Type 0
   Answers u = (k : ℕ) → k < u .count → fateAt d k ≡ Answered
@@ -182,13 +189,13 @@ module _ (h : Shape) (d : Recovery) (new : ℕ) (seven : h .replicas ≤ 7) (a :
     abbrev upTo : ℕ → Trail → Trail
     upTo n t = played h t (copies h d a mark b n t)
 
-    -- n calls that bring b to the mark and touch no other
+    -- n calls that bring b n records and touch no other
     pub record Along (n : ℕ) (t : Trail) (ps : List Input) : Type 0 where
       pub made : length ps ≡ n
       pub underway : Underway h d new (played h t ps)
       pub others : (j : ℕ) → (j ≡ b → ⊥) → Same h d t (played h t ps) j
       pub good : Good h d new (played h t ps) b
-      pub there : markAt (serverOf d (played h t ps)) b ≡ mark
+      pub there : markAt (serverOf d (played h t ps)) b ≡ markAt (serverOf d t) b + n
 
     abbrev pub Reached : ℕ → Trail → Type 0
     Reached n t = Along n t (copies h d a mark b n t)
@@ -203,9 +210,9 @@ module _ (h : Shape) (d : Recovery) (new : ℕ) (seven : h .replicas ≤ 7) (a :
         → copies h d a mark b (suc n) t ≡ p ∷ copies h d a mark b n (one h t p)
     goes-on n t l e = turn n t l ∙ rw e
 
-    pub copy-up : (n : ℕ) (t : Trail) → Underway h d new t → Source t → Good h d new t b → markAt (serverOf d t) b + n ≡ mark → Answers (upTo n t) → Reached n t
+    pub copy-up : (n : ℕ) (t : Trail) → Underway h d new t → Source t → Good h d new t b → lacks (serverOf d t) mark b ≡ n → Answers (upTo n t) → Reached n t
     unfolding played copies
-    copy-up zero t U s g e A = record { made = refl; underway = U; others = λ j n. same-state h d t t j refl; good = g; there = omega (arith, e) }
+    copy-up zero t U s g e A = record { made = refl; underway = U; others = λ j n. same-state h d t t j refl; good = g; there = omega arith }
     copy-up (suc n) t U s g e A =
         let p = copying d t a b in
         let u = one h t p in
@@ -215,36 +222,41 @@ module _ (h : Shape) (d : Recovery) (new : ℕ) (seven : h .replicas ≤ 7) (a :
         let now : t .count < upTo (suc n) t .count =
         subst⁻¹ (λ (ps : List Input). t .count < played h t ps .count) first
         (omega (arith, played-more h u (cond (isOk (u .reply)) (copies h d a mark b n u) []))) in
-        let c = copy-one h d new seven t U a b la lb (s .0) g below (A (t .count) now) in
+        let c = copy-one h d new seven t U a b la lb (s .0) g below (s .2) (A (t .count) now) in
         let whole = goes-on n t less (c .reply) in
         let far : a ≡ b → ⊥ = λ q. let z : markAt (serverOf d t) b ≡ markAt (serverOf d t) a = ap (markAt (serverOf d t)) (sym q) in omega (arith, below, z) in
         let o = c .others a far in
-        let r = copy-up n u (c .underway) (still-good h d new t u a o (s .0), o .mark ∙ s .1) (c .good) (omega (arith, c .mark, e)) (subst (λ (ps : List Input). Answers (played h t ps)) whole A) in
+        let source : Source u = (still-good h d new t u a o (s .0), o .mark ∙ s .1, restored-still t u (entries-copy h d a b t) (s .2)) in
+        let r = copy-up n u (c .underway) source (c .good) (omega (arith, c .mark, e)) (subst (λ (ps : List Input). Answers (played h t ps)) whole A) in
         subst⁻¹ (λ (ps : List Input). Along (suc n) t ps) whole
         (record {
           made = ap suc (r .made);
           underway = r .underway;
           others = λ j q. same-then h d t u (upTo n u) j (c .others j q) (r .others j q);
           good = r .good;
-          there = r .there;
+          there = omega (arith, r .there, c .mark);
         })
 
   -- ---- and of all
 
-  -- a replica of the list: good and not above the mark, or not known; and afterwards
+  -- a replica of the list: good, or not known; and afterwards, at the mark unless it stood above it. t is before the copies, u after them.
   abbrev pub Before : Trail → ℕ → Type 0
-  Before t b = (Good h d new t b × (markAt (serverOf d t) b ≤ mark)) ⊎ (activeAt (serverOf d t) b ≡ false)
+  Before t b = Good h d new t b ⊎ (activeAt (serverOf d t) b ≡ false)
 
-  abbrev pub After : Trail → ℕ → Type 0
-  After t b = (Good h d new t b × (markAt (serverOf d t) b ≡ mark)) ⊎ (activeAt (serverOf d t) b ≡ false)
+  abbrev pub After : Trail → Trail → ℕ → Type 0
+  After t u b = (Good h d new u b × (markAt (serverOf d u) b ≡ max mark (markAt (serverOf d t) b))) ⊎ (activeAt (serverOf d u) b ≡ false)
 
   before-still : (t u : Trail) (b : ℕ) → Same h d t u b → Before t b → Before u b
-  before-still t u b e (inl (g, l)) = inl (still-good h d new t u b e g, subst⁻¹ (λ (k : ℕ). k ≤ mark) (e .mark) l)
+  before-still t u b e (inl g) = inl (still-good h d new t u b e g)
   before-still t u b e (inr n) = inr (e .active ∙ n)
 
-  after-still : (t u : Trail) (b : ℕ) → Same h d t u b → After t b → After u b
-  after-still t u b e (inl (g, l)) = inl (still-good h d new t u b e g, e .mark ∙ l)
-  after-still t u b e (inr n) = inr (e .active ∙ n)
+  after-still : (t u z : Trail) (b : ℕ) → Same h d u z b → After t u b → After t z b
+  after-still t u z b e (inl (g, l)) = inl (still-good h d new u z b e g, e .mark ∙ l)
+  after-still t u z b e (inr n) = inr (e .active ∙ n)
+
+  after-later : (t u z : Trail) (b : ℕ) → Same h d t u b → After u z b → After t z b
+  after-later t u z b e (inl (g, l)) = inl (g, l ∙ ap (max mark) (e .mark))
+  after-later t u z b e (inr n) = inr n
 
   -- what those of a list lack is the same as long as they are
   lacking-same : (t u : Trail) (bs : List ℕ) → ((b : ℕ) → contains bs b ≡ true → Same h d t u b) → lacking (serverOf d u) mark bs ≡ lacking (serverOf d t) mark bs
@@ -260,7 +272,7 @@ module _ (h : Shape) (d : Recovery) (new : ℕ) (seven : h .replicas ≤ 7) (a :
     pub source : Source u
     pub others : (j : ℕ) → (j ≡ b → ⊥) → Same h d t u j
     pub known : activeAt (serverOf d u) b ≡ activeAt (serverOf d t) b
-    pub there : After u b
+    pub there : After t u b
 
   still-known : (t u : Trail) (b j : ℕ) → Turn t u b → Dec (j ≡ b) → activeAt (serverOf d u) j ≡ activeAt (serverOf d t) j
   still-known t u b j c (yes q) = rw q (c .known)
@@ -271,21 +283,27 @@ module _ (h : Shape) (d : Recovery) (new : ℕ) (seven : h .replicas ≤ 7) (a :
   unfolding played
   one-replica b t lb U s (inr n) A =
       rw n (refl, record { underway = U; source = s; others = λ j q. same-state h d t t j refl; known = refl; there = inr n })
-  one-replica b t lb U s (inl (g, le)) A =
+  one-replica b t lb U s (inl g) A =
       let n = lacks (serverOf d t) mark b in
-      let c = copy-up b lb n t U s g (omega (arith, le)) (rw (g .active) at A) in
+      let c = copy-up b lb n t U s g refl (rw (g .active) at A) in
       rw (g .active) (
         c .made,
-        record { underway = c .underway; source = still c (ℕ-discrete a b); others = c .others; known = c .good .active ∙ sym (g .active); there = inl (c .good, c .there) },
+        record { underway = c .underway; source = still c (ℕ-discrete a b); others = c .others; known = c .good .active ∙ sym (g .active); there = inl (c .good, omega (arith, c .there)) },
       )
     where
       ps : List Input
       ps = copies h d a mark b (lacks (serverOf d t) mark b) t
 
+      fit : restoredAt (serverOf d (played h t ps)) a ≡ false
+      fit = restored-still t (played h t ps) (entries-copies h d t a mark b (lacks (serverOf d t) mark b)) (s .2)
+
       -- a itself lacks nothing
       still : Along b lb (lacks (serverOf d t) mark b) t ps → Dec (a ≡ b) → Source (played h t ps)
-      still c (yes q) = subst⁻¹ (λ (i : ℕ). Good h d new (played h t ps) i × (markAt (serverOf d (played h t ps)) i ≡ mark)) q (c .good, c .there)
-      still c (no q) = let o = c .others a q in (still-good h d new t (played h t ps) a o (s .0), o .mark ∙ s .1)
+      still c (yes q) =
+          let at-b : markAt (serverOf d t) b ≡ mark = ap (markAt (serverOf d t)) (sym q) ∙ s .1 in
+          let now : markAt (serverOf d (played h t ps)) b ≡ mark = omega (arith, c .there, at-b) in
+          (subst⁻¹ (Good h d new (played h t ps)) q (c .good), ap (markAt (serverOf d (played h t ps))) q ∙ now, fit)
+      still c (no q) = let o = c .others a q in (still-good h d new t (played h t ps) a o (s .0), o .mark ∙ s .1, fit)
 
   abbrev after-all : Trail → List ℕ → Trail
   after-all t bs = played h t (allCopies h d a mark t bs)
@@ -295,7 +313,7 @@ module _ (h : Shape) (d : Recovery) (new : ℕ) (seven : h .replicas ≤ 7) (a :
     pub underway : Underway h d new (after-all t bs)
     pub others : (j : ℕ) → contains bs j ≡ false → Same h d t (after-all t bs) j
     pub known : (b : ℕ) → activeAt (serverOf d (after-all t bs)) b ≡ activeAt (serverOf d t) b
-    pub there : (b : ℕ) → contains bs b ≡ true → After (after-all t bs) b
+    pub there : (b : ℕ) → contains bs b ≡ true → After t (after-all t bs) b
 
   pub copy-all : (bs : List ℕ) (t : Trail) → repeats bs ≡ false → notBelow (h .replicas) bs ≡ false → Underway h d new t → Source t
       → ((b : ℕ) → contains bs b ≡ true → Before t b) → Answers (after-all t bs) → All t bs
@@ -317,9 +335,9 @@ module _ (h : Shape) (d : Recovery) (new : ℕ) (seven : h .replicas ≤ 7) (a :
         underway = subst⁻¹ (Underway h d new) joined (r .underway);
         others = λ j e. let n = not-first b j bs e in subst⁻¹ (λ (y : Trail). Same h d t y j) joined (same-then h d t u z j (c .1 .others j (n .0)) (r .others j (n .1)));
         known = λ j. ap (λ (y : Trail). activeAt (serverOf d y) j) joined ∙ r .known j ∙ still-known t u b j (c .1) (ℕ-discrete j b);
-        there = λ j e. subst⁻¹ (λ (y : Trail). After y j) joined
+        there = λ j e. subst⁻¹ (λ (y : Trail). After t y j) joined
             (⊎-elim
-            (λ q. subst⁻¹ (After z) q (after-still u z b (r .others b (f .0)) (c .1 .there)))
-            (λ q. r .there j q)
+            (λ q. subst⁻¹ (After t z) q (after-still t u z b (r .others b (f .0)) (c .1 .there)))
+            (λ q. after-later t u z j (c .1 .others j (apart j q)) (r .there j q))
             (in-either b j bs e));
       }

@@ -26,10 +26,12 @@ use Rattle.storage.specs.Operations.{mediumAt}
 use Rattle.storage.proofs.Fresh.{fresh-medium}
 use Rattle.quorum.specs.Vote.{quorum}
 use Rattle.cluster.specs.declared.Shape.{Shape}
-use Rattle.cluster.specs.State.{freshMedia, fresh}
+use Rattle.cluster.specs.declared.Entry.{Entry}
+use Rattle.cluster.specs.State.{freshEntry, freshMedia, fresh, entryAt, isRestored}
 use Rattle.cluster.specs.Refusals.{noSlot, promiseAbove, pass, firstOf}
 use Rattle.recovery.specs.Recovery.{Recovery, contains, recoveryRows}
-use Rattle.recovery.specs.Arrival.{Typed, ready, howMany, Met, Arrived}
+use Rattle.recovery.specs.Arrival.{Typed, ready, counts, howMany, Met, Arrived}
+use Rattle.recovery.proofs.Steady.{equal-at}
 use Rattle.recovery.proofs.Own.{own}
 use Rattle.recovery.proofs.Listed.{first-in, later-in, listed-below}
 use Rattle.recovery.proofs.Copying.{slot-there}
@@ -63,6 +65,13 @@ is-ready h i l =
     let m = freshMedium (h .places) in
     let q : (not (noSlot m) && not (promiseAbove 1 m)) ≡ true = rw (slot-there m (fresh-medium (h .places) .valid), low (h .places)) in
     ap (λ (z : List ℕ). not (noSlot z) && not (promiseAbove 1 z)) (media-at (h .replicas) (h .places) i l) ∙ q
+
+-- and none is restored
+is-counted : (h : Shape) (i : ℕ) → i < h .replicas → counts h (fresh h) i ≡ true
+unfolding fresh
+is-counted h i l =
+    let q : isRestored (entryAt (replicate 7 freshEntry) i .closing) ≡ false = ap (λ (e : Entry). isRestored (e .closing)) (equal-at 7 i freshEntry) in
+    ap (λ (b : Bool). b && not (isRestored (entryAt (replicate 7 freshEntry) i .closing))) (is-ready h i l) ∙ ap not q
 
 all-ready : (p : ℕ → Bool) (is : List ℕ) → ((i : ℕ) → contains is i ≡ true → p i ≡ true) → howMany p is ≡ length is
 unfolding howMany
@@ -105,7 +114,7 @@ unfolding fresh
 met h d e none many =
     let below = own h (fresh h) d e .below in
     let N = h .places in
-    let all = all-ready (ready h (fresh h)) (d .listed) (λ i q. is-ready h i (listed-below (h .replicas) i (d .listed) below q)) in
+    let all = all-ready (counts h (fresh h)) (d .listed) (λ i q. is-counted h i (listed-below (h .replicas) i (d .listed) below q)) in
     record {
       admitted = e;
       answered = λ k l. ap (λ (fs : List Fate). getD fs k Answered) none;

@@ -1,11 +1,14 @@
 -- THE ORDER OF A RECOVERY'S CALLS. Document 02, No. 9: "It takes, prepares in list order, copies each known replica in that order .., from the first that then had
 -- it, and opens." Whatever the fates and the replies: a take; a prepare of each listed replica, in the order of the list; copies from one source, to one replica
--- to its end before the next, in the order of the list; one open. The statement comes first; the theorem is `in-order`. Which source: `first-source`.
+-- to its end before the next, in the order of the list; one open. The source votes: it is not restored. The statement comes first; the theorem is `in-order`.
+-- Which source: `first-source`.
 -- Assumes nothing.
-use mathlib.Core.Path.{_≡_, refl, ap, ap₂, _∙_}
+use mathlib.Core.Path.{_≡_, refl, sym, ap, ap₂, _∙_}
 use mathlib.Core.Bool.{Bool, true, false, cond, _&&_}
+use mathlib.Core.Logic.{_⊎_, inl, inr, ⊎-elim}
 use mathlib.Core.List.{List, [], _∷_, _++_, map}
 use Prim.Native.Nat.{ℕ, zero, suc}
+use native.Mathlib.Omega.{arith}
 use lib.ListN.{replicate}
 use lib.Dec.{ltb, eqb}
 use Rattle.fate.specs.declared.Fate.the-variants.{Answered}
@@ -13,11 +16,12 @@ use Rattle.cluster.specs.declared.Shape.{Shape}
 use Rattle.cluster.specs.declared.Server.{Server}
 use Rattle.cluster.specs.declared.Call.{Call}
 use Rattle.cluster.specs.declared.Call.the-variants as call
-use Rattle.cluster.specs.State.{State, markAt, activeAt}
+use Rattle.cluster.specs.State.{State, markAt, activeAt, votesAt}
 use Rattle.cluster.specs.Refusals.{Input, pass, firstOf}
 use Rattle.recovery.specs.Recovery.{Recovery, Trail, one, played, preparing, copying, opening, isOk, serverOf, contains, prepares, highestKnown, firstAt, copies, copiesTo, lacks, allCopies, catchingUp, afterTake, fromTake, recoveryRows, callsOf}
-use Rattle.recovery.specs.Arrival.{taken}
+use Rattle.recovery.specs.Arrival.{taken, prepared}
 use Rattle.recovery.proofs.Listed.{first-in, later-in}
+use Rattle.recovery.proofs.Highest.{source-or-none}
 
 -- ---- the statement
 
@@ -38,6 +42,7 @@ named p = go (p .call)
     go (call.Export s i f) = call.Reassign
     go (call.Stop s) = call.Reassign
     go call.Reassign = call.Reassign
+    go (call.Restore i) = call.Reassign
 
 -- so many copies from a to each of a list, one to the end before the next
 unfoldable pub runs : ℕ → ℕ → List ℕ → List ℕ → List Call
@@ -54,6 +59,8 @@ pub record Ordered (h : Shape) (x : State) (d : Recovery) : Type 0 where
       → map named (callsOf h x d)
       ≡ call.Take (d .server) Answered
       ∷ (map (λ i. call.Prepare (d .server) i Answered) (d .listed) ++ (runs (d .server) source (d .listed) numbers ++ (call.Open (d .server) Answered ∷ [])))
+  -- document 02, No. 10: the driver "copies from none such": the source is known and not restored, or there are no copies
+  pub votes : (votesAt (serverOf d (prepared h x d)) source ≡ true) ⊎ (runs (d .server) source (d .listed) numbers ≡ [])
 
 abbrev pub InOrder : Type 0
 InOrder = (h : Shape) (x : State) (d : Recovery) → firstOf (recoveryRows h x d) ≡ pass → Ordered h x d
@@ -102,6 +109,20 @@ module _ (h : Shape) (d : Recovery) where
         let rest = run-all bs (played h t ps) in
         (r .0 ∷ rest .0, map-join ps (allCopies h d a m (played h t ps) bs) ∙ ap₂ _++_ (r .1) (rest .1))
 
+  -- nobody lacks anything of the mark 0
+  none-to : (a b : ℕ) (t : Trail) → copiesTo h d a 0 b t ≡ []
+  unfolding copies
+  none-to a b t = let z : lacks (serverOf d t) 0 b ≡ 0 = omega arith in rw z (go (activeAt (serverOf d t) b))
+    where
+      go : (k : Bool) → cond {A = List Input} k [] [] ≡ []
+      go true = refl
+      go false = refl
+
+  none-all : (a : ℕ) (bs : List ℕ) (t : Trail) → allCopies h d a 0 t bs ≡ []
+  unfolding allCopies played
+  none-all a [] t = refl
+  none-all a (b ∷ bs) t = rw (none-to a b t) (none-all a bs t)
+
 pub in-order : InOrder
 unfolding callsOf fromTake afterTake
 in-order h x d e =
@@ -121,13 +142,17 @@ in-order h x d e =
       all = λ k. rw (e, k)
           (ap (λ (l : List Call). call.Take (d .server) Answered ∷ l)
           (map-join ps (cs ++ (o ∷ [])) ∙ ap₂ _++_ (named-prepares h d (d .listed) t) (map-join cs (o ∷ []) ∙ ap (λ (l : List Call). l ++ (call.Open (d .server) Answered ∷ [])) (r .1))));
+      votes = ⊎-elim
+          (λ g. inl (g .votes))
+          (λ z. inr (sym (r .1) ∙ ap (λ (n : ℕ). map named (allCopies h d a n u (d .listed))) z ∙ ap (map named) (none-all h d a (d .listed) u)))
+          (source-or-none v (d .listed));
     }
 
 -- ---- the source
 
--- "from the first that then had it": whoever stands before it in the list is not known at the mark
-pub first-source : (v : Server) (m : ℕ) (is js : List ℕ) (a : ℕ) → ((i : ℕ) → contains is i ≡ true → (activeAt v i && eqb (markAt v i) m) ≡ false)
-    → (activeAt v a && eqb (markAt v a) m) ≡ true → firstAt v m (is ++ (a ∷ js)) ≡ a
+-- "from the first that then had it": whoever stands before it in the list is not known at the mark, or is restored
+pub first-source : (v : Server) (m : ℕ) (is js : List ℕ) (a : ℕ) → ((i : ℕ) → contains is i ≡ true → (votesAt v i && eqb (markAt v i) m) ≡ false)
+    → (votesAt v a && eqb (markAt v a) m) ≡ true → firstAt v m (is ++ (a ∷ js)) ≡ a
 unfolding firstAt
 first-source v m [] js a f e = rw e
 first-source v m (i ∷ is) js a f e = rw (f i (first-in i is)) (first-source v m is js a (λ k q. f k (later-in i k is q)) e)

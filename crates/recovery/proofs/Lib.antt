@@ -15,6 +15,7 @@ pub mod Arrives
 pub mod Bound
 pub mod StageCounts
 pub mod Refused
+pub mod Fewer
 pub mod TurnsEnough
 pub mod OneACall
 pub mod InOrder

@@ -37,6 +37,7 @@ Its d k (call.Read s i n f) given = ⊥
 Its d k (call.Export s i f) given = ⊥
 Its d k (call.Stop s) given = ⊥
 Its d k call.Reassign given = ⊥
+Its d k (call.Restore i) given = ⊥
 
 abbrev pub OneEach : Recovery → ℕ → List Input → Type 0
 OneEach d k [] = Unit {0}

@@ -1,4 +1,5 @@
--- An open, answered, of a server whose known replicas all stand at one mark and are at least Q: it answers that mark.
+-- An open, answered, of a server whose voters (known and not restored) all stand at one mark and are at least Q: it answers that mark. Where a restored replica
+-- stands does not matter: at that mark it is clean too, else it is not counted.
 -- Assumes nothing.
 use mathlib.Core.Path.{_≡_, refl, sym, ap, _∙_}
 use mathlib.Core.Bool.{Bool, true, false, not, _&&_, _||_}
@@ -9,17 +10,17 @@ use native.Mathlib.Omega.{arith}
 use lib.Seq.{getD-set-same}
 use lib.Dec.{eqb, leb, ltb}
 use borrow.Author.Tests.{leb-true, ltb-true, le-ltb, lt-ltb, le-leb, eq-eqb, eqb-true, not-false}
-use Rattle.base.specs.Below.{count}
-use Rattle.base.proofs.Below.{count-le}
+use Rattle.base.specs.Below.{bit, count}
+use Rattle.base.proofs.Below.{count-le, count-mono}
 use Rattle.base.proofs.Same.{count-same}
-use Rattle.base.proofs.Tests.{neither, either}
+use Rattle.base.proofs.Tests.{both, neither, either}
 use Rattle.fate.specs.declared.Fate.the-variants.{Answered}
 use Rattle.quorum.specs.Vote.{quorum, reach, decided}
 use Rattle.quorum.proofs.Reach.{reach-none, majority-is}
 use Rattle.cluster.specs.declared.Shape.{Shape}
 use Rattle.cluster.specs.declared.Server.{Server}
 use Rattle.cluster.specs.declared.Phase.the-variants.{Open}
-use Rattle.cluster.specs.State.{noServer, markAt, activeAt, votesAt}
+use Rattle.cluster.specs.State.{noServer, markAt, activeAt, restoredAt, votesAt}
 use Rattle.cluster.specs.Replies.{ok}
 use Rattle.cluster.specs.Refusals.{replicasFit, outside, undecided, voteMark, cleanAt, tooFewClean, sessionDiffers, rowsOf, pass, firstOf}
 use Rattle.cluster.specs.Effects.{openedServer, openEffect}
@@ -55,8 +56,8 @@ odd-replicas h media tables e =
 
 -- ---- the vote
 
-module _ (v : Server) (r mark : ℕ) (o : Odd r) (at : (i : ℕ) → i < r → activeAt v i ≡ true → markAt v i ≡ mark) (many : quorum r ≤ count (votesAt v) r) where
-  -- every known replica reaches the mark, and none a higher one
+module _ (v : Server) (r mark : ℕ) (o : Odd r) (at : (i : ℕ) → i < r → votesAt v i ≡ true → markAt v i ≡ mark) (many : quorum r ≤ count (votesAt v) r) where
+  -- every voter reaches the mark, and none a higher one
   all-reach : reach (votesAt v) (markAt v) r mark ≡ count (votesAt v) r
   all-reach = count-same r (λ i. votesAt v i && leb mark (markAt v i)) (votesAt v) (λ i l. go i l (votesAt v i) refl)
     where
@@ -81,19 +82,19 @@ module _ (v : Server) (r mark : ℕ) (o : Odd r) (at : (i : ℕ) → i < r → a
       )
 
   pub are-clean : tooFewClean r v mark ≡ false
-  are-clean = le-ltb (count (cleanAt v mark) r) (quorum r) (omega (arith, same, many))
+  are-clean = le-ltb (count (cleanAt v mark) r) (quorum r) (omega (arith, more, many))
     where
-      go : (i : ℕ) → i < r → (b : Bool) → votesAt v i ≡ b → cleanAt v mark i ≡ votesAt v i
-      go i l true e = rw (e, eq-eqb (markAt v i) mark (at i l e))
-      go i l false e = rw e
+      go : (i : ℕ) → i < r → (b : Bool) → votesAt v i ≡ b → bit b ≤ bit (cleanAt v mark i)
+      go i l true e = rw (both (activeAt v i) (not (restoredAt v i)) e .0, eq-eqb (markAt v i) mark (at i l e)) (omega arith)
+      go i l false e = omega arith
 
-      same : count (cleanAt v mark) r ≡ count (votesAt v) r
-      same = count-same r (cleanAt v mark) (votesAt v) (λ i l. go i l (votesAt v i) refl)
+      more : count (votesAt v) r ≤ count (cleanAt v mark) r
+      more = count-mono (votesAt v) (cleanAt v mark) r (λ i l. go i l (votesAt v i) refl)
 
 -- ---- the call
 
 module _ (h : Shape) (d : Recovery) (new : ℕ) (t : Trail) (U : Underway h d new t) (mark : ℕ) (o : Odd (h .replicas))
-    (at : (i : ℕ) → i < h .replicas → activeAt (serverOf d t) i ≡ true → markAt (serverOf d t) i ≡ mark)
+    (at : (i : ℕ) → i < h .replicas → votesAt (serverOf d t) i ≡ true → markAt (serverOf d t) i ≡ mark)
     (many : quorum (h .replicas) ≤ count (votesAt (serverOf d t)) (h .replicas)) (ans : fateAt d (t .count) ≡ Answered) where
   abbrev v : Server
   v = serverOf d t

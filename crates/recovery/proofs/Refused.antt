@@ -14,8 +14,9 @@ use lib.ListN.{length}
 use lib.Dec.{eqb}
 use borrow.Author.Tests.{eqb-true, le-ltb, eq-eqb}
 use Rattle.fate.specs.declared.Fate.{Fate}
+use Rattle.fate.specs.declared.Fate.the-variants.{Answered}
 use Rattle.cluster.specs.declared.Shape.{Shape}
-use Rattle.cluster.specs.State.{State}
+use Rattle.cluster.specs.State.{State, activeAt}
 use Rattle.cluster.specs.Replies.{ok, no}
 use Rattle.cluster.specs.Refusals.{Input, Row, row, order, isCut, answered, undecided, voteMark, tooFewClean, sessionAtTop, sessionDiffers, rowsOf, Verdict, pass, declined, firstOf}
 use Rattle.cluster.specs.Effects.{takeEffect}
@@ -28,7 +29,7 @@ use Rattle.recovery.specs.Recovery.{Recovery, Trail, fateAt, played, tak
 use Rattle.recovery.specs.Arrival.{taken, prepared}
 use Rattle.recovery.proofs.Counts.{played-more}
 use Rattle.recovery.proofs.Own.{Admitted, own, take-rows}
-use Rattle.recovery.proofs.Underway.{Underway, taken-underway}
+use Rattle.recovery.proofs.Underway.{Underway, taken-underway, taken-none, taken-entries}
 use Rattle.recovery.proofs.Staying.{underway-prepares, underway-all}
 use Rattle.recovery.proofs.Turns.{ok-values, answered-is, unseen}
 use Rattle.recovery.proofs.Arrives.{caught, begins, ends, first-call}
@@ -59,7 +60,7 @@ module _ (h : Shape) (x : State) (d : Recovery) where
   ws = recoveryRows h x d
 
   -- what it leaves where it is declined
-  own-reply : (n : ℕ) (values : List ℕ) → firstOf ws ≡ declined n values → recovered h x d ≡ record { state = x; reply = no n values; count = 0 }
+  pub own-reply : (n : ℕ) (values : List ℕ) → firstOf ws ≡ declined n values → recovered h x d ≡ record { state = x; reply = no n values; count = 0 }
   unfolding recovered callsOf begun played
   own-reply n values e = rw e
 
@@ -124,7 +125,7 @@ three a b c n u v w e = go (eqb a n) refl e
     go false q k = ⊎-elim (λ p. inr (inl p)) (λ p. inr (inr p)) (two b c n v w k)
 
 -- 22 is never seen: nobody but the server's own take has raised the session
-open-rows : (h : Shape) (d : Recovery) (new : ℕ) (t : Trail) → Underway h d new t
+pub open-rows : (h : Shape) (d : Recovery) (new : ℕ) (t : Trail) → Underway h d new t
     → let v = serverOf d t in
     let f = fateAt d (t .count) in
     firstOf (rowsOf h (t .state) (opening d t))
@@ -155,31 +156,50 @@ module _ (h : Shape) (x : State) (d : Recovery) (four : length (x .records .serv
   unfolding begun
   take-list = take-rows h d t₀ A
 
-  -- a take with ok puts the recovery on its way
-  started : (values : List ℕ) → step h x (taking d t₀) .reply ≡ ok values → Underway h d (x .records .register .session + 1) (taken h x d)
+  -- what a take with ok has passed
+  record Took : Type 0 where
+    passes : firstOf (rowsOf h x (taking d t₀)) ≡ pass
+    answers : f ≡ Answered
+    below-top : sessionAtTop (x .records .register .session) ≡ false
+
+  took : (values : List ℕ) → step h x (taking d t₀) .reply ≡ ok values → Took
   unfolding begun step unless takeEffect
-  started values q =
+  took values q =
       let p = taking d t₀ in
       let through = ok-passes (rowsOf h x p) x (effect h x p (p .call)) values q in
       let ans = answered-is f (is-answered (answered f) _ values (rw through at q)) in
-      taken-underway h d t₀ (A .steady) four through ans (unseen ans (passed (rowsOf h x p) through 21)) (A .server)
+      record { passes = through; answers = ans; below-top = unseen ans (passed (rowsOf h x p) through 21) }
 
-  pub on-its-way : isOk (taken h x d .reply) ≡ true → Underway h d (x .records .register .session + 1) (taken h x d)
-  unfolding begun
-  on-its-way k = let q = ok-values (taken h x d .reply) k in started (q .0) (q .1)
+  module _ (k : isOk (taken h x d .reply) ≡ true) where
+    has-taken : Took
+    unfolding begun
+    has-taken = let q = ok-values (taken h x d .reply) k in took (q .0) (q .1)
+
+    -- it puts the recovery on its way, with the register's entries and no replica known
+    pub on-its-way : Underway h d (x .records .register .session + 1) (taken h x d)
+    unfolding begun
+    on-its-way = taken-underway h d t₀ (A .steady) four (has-taken .passes) (has-taken .answers) (has-taken .below-top) (A .server)
+
+    pub handed-over : serverOf d (taken h x d) .entries ≡ x .records .register .entries
+    unfolding begun
+    handed-over = taken-entries h d t₀ (A .steady) four (has-taken .passes) (has-taken .answers) (has-taken .below-top) (A .server)
+
+    pub knows-none : (i : ℕ) → activeAt (serverOf d (taken h x d)) i ≡ false
+    unfolding begun
+    knows-none = taken-none h d t₀ (A .steady) four (has-taken .passes) (has-taken .answers) (has-taken .below-top) (A .server)
 
   -- it is on its way still when it opens
   abbrev u : Trail
   u = caught h x d admitted
 
-  when-opening : isOk (taken h x d .reply) ≡ true → Underway h d (x .records .register .session + 1) u
+  pub when-opening : isOk (taken h x d .reply) ≡ true → Underway h d (x .records .register .session + 1) u
   when-opening k =
       let v = serverOf d (prepared h x d) in
       let m = highestKnown v (d .listed) in
       underway-all h d _ (firstAt v m (d .listed)) m (d .listed) (prepared h x d) (underway-prepares h d _ (d .listed) (taken h x d) (on-its-way k))
 
   -- the two ways to end
-  alone : isOk (taken h x d .reply) ≡ false → recovered h x d ≡ taken h x d
+  pub alone : isOk (taken h x d .reply) ≡ false → recovered h x d ≡ taken h x d
   unfolding played
   alone k = begins h x d admitted ∙ rw k
 

@@ -23,7 +23,7 @@ use Rattle.fate.specs.Fates.{Write, allOf, leave, cutAt, after}
 use Rattle.storage.specs.declared.slot.Slot.{Slot}
 use Rattle.storage.specs.declared.slot.Current.{Current}
 use Rattle.storage.specs.declared.operation.Target.{Target}
-use Rattle.storage.specs.declared.operation.Target.the-variants.{Whole, Mark}
+use Rattle.storage.specs.declared.operation.Target.the-variants.{Whole, Mark, LowWater}
 use Rattle.storage.specs.declared.operation.Operation.the-variants as op
 use Rattle.storage.specs.Sizes.{placeSize, mediumSize}
 use Rattle.storage.specs.Slots.{currentOf, storedSlot}
@@ -111,20 +111,25 @@ promising-within N c x s = go (eqb (x .promise) s)
     go true = tt
     go false = (omega (arith, other-le c, slot-length (record { promise = s; low = x .low; local = x .local })), tt)
 
-closing-within : (N n : ℕ) (to : Target) → n ≤ N → Within (mediumSize N) (closing n to)
-unfolding Within closing wipes
-closing-within N n Whole l = tt
-closing-within N n (Mark t) l = go (lt-or-le n t)
+truncating-within : (N n t : ℕ) → n ≤ N → Within (mediumSize N) (wipes t (n - t))
+unfolding Within wipes
+truncating-within N n t l = go (lt-or-le n t)
   where
     go : (n < t) ⊎ (t ≤ n) → Within (mediumSize N) (wipes t (n - t))
     go (inl k) = let z : n - t ≡ 0 = omega (arith, k) in rw z tt
     go (inr k) = wipes-within N t (n - t) (omega (arith, k, l))
 
+closing-within : (N n low : ℕ) (to : Target) → n ≤ N → Within (mediumSize N) (closing n low to)
+unfolding Within closing
+closing-within N n low Whole l = tt
+closing-within N n low (Mark t) l = truncating-within N n t l
+closing-within N n low LowWater l = truncating-within N n low l
+
 prepare-within : (N session : ℕ) (to : Target) (m : List ℕ) → Within (mediumSize N) (prepareWrites N session to m)
 unfolding prepareWrites
 prepare-within N session to m =
-    within-append (mediumSize N) (promising (currentOf m) (storedSlot m) session) (closing (markOf N m) to)
-    (promising-within N (currentOf m) (storedSlot m) session) (closing-within N (markOf N m) to (mark-le N m))
+    within-append (mediumSize N) (promising (currentOf m) (storedSlot m) session) (closing (markOf N m) (storedSlot m .low) to)
+    (promising-within N (currentOf m) (storedSlot m) session) (closing-within N (markOf N m) (storedSlot m .low) to (mark-le N m))
 
 append-within : (N n : ℕ) (bs : List ℕ) → n < N → length bs ≡ placeSize → Within (mediumSize N) (placeWrite (n + 1) bs ∷ [])
 unfolding Within

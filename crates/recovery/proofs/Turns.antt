@@ -27,7 +27,7 @@ use Rattle.cluster.specs.declared.Shape.{Shape}
 use Rattle.cluster.specs.declared.Server.{Server}
 use Rattle.cluster.specs.State.{State, putServer, markAt}
 use Rattle.cluster.specs.Replies.{Reply, ok, no, silent}
-use Rattle.cluster.specs.Refusals.{Input, answered, noSlot, promiseDiffers, markDiffers, rowsOf, pass, firstOf}
+use Rattle.cluster.specs.Refusals.{Input, answered, noSlot, promiseDiffers, markDiffers, refusesAt, restoredSource, rowsOf, pass, firstOf}
 use Rattle.cluster.specs.Effects.{withReplica, appendEffect}
 use Rattle.cluster.specs.Step.{effect, unless, step}
 use Rattle.cluster.proofs.Rows.{passed}
@@ -120,7 +120,8 @@ module _ (h : Shape) (d : Recovery) (new : ℕ) (seven : h .replicas ≤ 7) (t :
       let named-a = leb-false (h .replicas) a (neither (leb (h .replicas) a) (leb (h .replicas) b) two .0) in
       let named = leb-false (h .replicas) b (neither (leb (h .replicas) a) (leb (h .replicas) b) two .1) in
       let below = ltb-true (markAt v b) (markAt v a) (not-false _ (none 16)) in
-      let source = neither (noSlot _ || promiseDiffers (v .session) _) (markDiffers N (markAt v a) (mediumAt N a (x .media))) (none 17) .1 in
+      let fit = neither (restoredSource v a) (refusesAt N v (x .media) a) (none 17) .1 in
+      let source = neither (noSlot _ || promiseDiffers (v .session) _) (markDiffers N (markAt v a) (mediumAt N a (x .media))) fit .1 in
       let at-a = passed-mark N (markAt v a) (mediumAt N a (x .media)) source in
       let at-b = passed-mark N (markAt v b) m (unseen ans (none 20)) in
       let reached : markAt v a ≤ N = omega (arith, mark-le N (mediumAt N a (x .media)), at-a) in

@@ -159,6 +159,10 @@ module _ (h : Shape) (d : Recovery) (t : Trail) (steady : Steady h (t .state)) (
       let z : getD (openingServer g .known) i false ≡ false = equal-at 7 i false in
       ap (λ (v : Server). activeAt v i) (its-server l) ∙ ap (λ (b : Bool). b && not (getD (openingServer g .dropped) i false)) z
 
+  -- it is handed the register's entries, so that it knows who is restored
+  pub taken-entries : d .server < 4 → serverOf d u .entries ≡ x .records .register .entries
+  taken-entries l = ap (λ (v : Server). v .entries) (its-server l)
+
   pub taken-media : u .state .media ≡ x .media
   taken-media = ap (λ (z : Trail). z .state .media) after-take
 

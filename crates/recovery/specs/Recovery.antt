@@ -96,16 +96,19 @@ prepares h d t (i ∷ is) = let p = preparing d t i in p ∷ prepares h d (one h
 -- "the highest mark known after the prepares", and "the first that then had it": v is the server's record then. Document 02, No. 10, of restored replicas: "The
 -- driver takes its highest mark from the others, copies from none such"; the others are those that vote. With none of them known the mark is 0, and there is
 -- nothing to copy.
+abbrev pub voterMark : Server → ℕ → ℕ
+voterMark v i = cond (votesAt v i) (markAt v i) 0
+
 unfoldable pub highestKnown : Server → List ℕ → ℕ
 highestKnown v [] = 0
-highestKnown v (i ∷ is) = max (cond (votesAt v i) (markAt v i) 0) (highestKnown v is)
+highestKnown v (i ∷ is) = max (voterMark v i) (highestKnown v is)
 
 unfoldable pub firstAt : Server → ℕ → List ℕ → ℕ
 firstAt v m [] = 0
 firstAt v m (i ∷ is) = cond (votesAt v i && eqb (markAt v i) m) i (firstAt v m is)
 
--- "copies each known replica .. up to" the mark m, restored ones too ("It may receive copies"), from a to b: a copy while b is below it, until one is without ok. There are at most so many turns; at most
--- what b lacks are needed, since each copy with ok brings at least one record (proofs/TurnsEnough `enough`).
+-- "copies each known replica .. up to" the mark m, restored ones too ("It may receive copies"), from a to b: a copy while b is below it, until one is without
+-- ok. There are at most so many turns; at most what b lacks are needed, since each copy with ok brings at least one record (proofs/TurnsEnough `enough`).
 unfoldable pub copies : Shape → Recovery → ℕ → ℕ → ℕ → ℕ → Trail → List Input
 copies h d a m b zero t = []
 copies h d a m b (suc turns) t =

@@ -13,10 +13,9 @@ use Rattle.base.proofs.Same.{Same, count-same}
 use Rattle.quorum.specs.declared.Vote.{Vote}
 use Rattle.quorum.specs.declared.Vote.the-variants.{Undecided, Decided}
 use Rattle.quorum.specs.Vote.{flagsOf, majorityMark, decided, voteOf}
-use Rattle.quorum.proofs.Same.{vote-same}
 use Rattle.cluster.specs.declared.Register.{Register}
 use Rattle.cluster.specs.declared.Server.{Server}
-use Rattle.cluster.specs.State.{markAt, activeAt, entryAt}
+use Rattle.cluster.specs.State.{markAt, activeAt, votesAt, entryAt}
 use Rattle.cluster.specs.Refusals.{undecided, voteMark, cleanAt, tooFewClean, Row, row, firstOf}
 use Rattle.cluster.specs.Effects.{entryAfter}
 use Rattle.register_calls.specs.declared.open.Ballot.{Ballot}
@@ -42,26 +41,27 @@ decided-is : (b : Bool) (m d : ℕ) → cond b (Decided m) Undecided ≡ Decided
 decided-is true m d e = (refl, cc)
 decided-is false m d e = let z : _≡_ {A = ℕ} 0 1 = cc in absurd (omega arith)
 
-module _ (v : Server) (r : ℕ) (flags : List Bool) (h : r ≤ 7) (e : flags ≡ upTo (activeAt v) (replicate 7 false) 7) where
-  active-is : Same r (flagsOf flags) (activeAt v)
-  active-is i l = flag-at (activeAt v) 7 i flags (omega arith) (omega arith) e
-
-  vote-is : voteOf (flagsOf flags) (markAt v) r ≡ voteOf (activeAt v) (markAt v) r
-  vote-is = vote-same r (flagsOf flags) (activeAt v) (markAt v) (markAt v) active-is (λ i h. refl)
-
-  pub not-decided : {x : Vote} → x ≡ voteOf (flagsOf flags) (markAt v) r → x ≡ Undecided → true ≡ undecided r v
+module _ (v : Server) (r : ℕ) {x : Vote} (q : x ≡ voteOf (votesAt v) (markAt v) r) where
+  pub not-decided : x ≡ Undecided → true ≡ undecided r v
   unfolding voteOf
-  not-decided q u = sym (ap not (undecided-is (decided (activeAt v) (markAt v) r) (majorityMark (activeAt v) (markAt v) r) (sym vote-is ∙ sym q ∙ u)))
+  not-decided u = sym (ap not (undecided-is (decided (votesAt v) (markAt v) r) (majorityMark (votesAt v) (markAt v) r) (sym q ∙ u)))
 
-  pub is-decided : {x : Vote} (d : ℕ) → x ≡ voteOf (flagsOf flags) (markAt v) r → x ≡ Decided d → (false ≡ undecided r v) × (d ≡ voteMark r v)
+  pub is-decided : (d : ℕ) → x ≡ Decided d → (false ≡ undecided r v) × (d ≡ voteMark r v)
   unfolding voteOf
-  is-decided d q u =
-      let w = decided-is (decided (activeAt v) (markAt v) r) (majorityMark (activeAt v) (markAt v) r) d (sym vote-is ∙ sym q ∙ u) in
+  is-decided d u =
+      let w = decided-is (decided (votesAt v) (markAt v) r) (majorityMark (votesAt v) (markAt v) r) d (sym q ∙ u) in
       (sym (ap not (w .0)), sym (w .1))
 
-  -- the clean ones among them, and how many they are
-  pub clean-is : (d : ℕ) {clean : List Bool} → clean ≡ upTo (λ i. flagsOf flags i && eqb (markAt v i) d) (replicate 7 false) r → clean ≡ upTo (cleanAt v d) (replicate 7 false) r
-  clean-is d q = q ∙ upTo-same r _ (cleanAt v d) (replicate 7 false) (λ i l. ap (λ (b : Bool). b && eqb (markAt v i) d) (active-is i l))
+-- the clean ones among those that may be used
+pub clean-is :
+    (v : Server) (r : ℕ) (flags : List Bool) (d : ℕ) {clean : List Bool}
+    → r ≤ 7
+    → flags ≡ upTo (activeAt v) (replicate 7 false) 7
+    → clean ≡ upTo (λ i. flagsOf flags i && eqb (markAt v i) d) (replicate 7 false) r
+    → clean ≡ upTo (cleanAt v d) (replicate 7 false) r
+clean-is v r flags d h e q =
+    q ∙ upTo-same r _ (cleanAt v d) (replicate 7 false)
+    (λ i l. ap (λ (b : Bool). b && eqb (markAt v i) d) (flag-at (activeAt v) 7 i flags (omega arith) (omega arith) e))
 
 -- what is made by the clean flags
 module _ (v : Server) (d r : ℕ) (clean : List Bool) (h : r ≤ 7) (e : clean ≡ upTo (cleanAt v d) (replicate 7 false) r) where

@@ -24,6 +24,7 @@ use crate::message::settle;
 use checks::Check;
 use checks::also;
 use checks::both;
+use checks::vote::vote_among;
 use cluster::Answer;
 use cluster::Closing;
 use cluster::Entry;
@@ -48,7 +49,7 @@ struct Ballot {
     few: bool,
 }
 
-// The clean replicas among those that may be used: exactly at the mark d.
+// The clean replicas among those that may be used, restored ones included: exactly at the mark d.
 fn clean_flags(active: [bool; 7], marks: [u64; 7], d: u64, r: usize) -> [bool; 7]
     requires { ⌜ r ≤ 7 ⌝ }
     ensures { λ f. ⌜ f ≡ upTo (λ i. flagsOf active i && eqb (marksOf marks i) d) (replicate 7 false) r ⌝ }
@@ -68,7 +69,7 @@ fn count_ballot(v: Server, r: usize) -> Ballot
     let dropped = v.dropped;
     let marks = v.marks;
     let active = checks::active_flags(known, dropped);
-    let Vote::Decided(d) = quorum::vote_of(active, marks, r) else {
+    let Vote::Decided(d) = vote_among(v, r) else {
         return Ballot {
             decided: false,
             mark: 0,
@@ -123,6 +124,10 @@ fn entry_after(e: Entry, clean: bool, session: u64, d: u64) -> Entry
         Closing::Mark(m) => Entry {
             session: e.session,
             closing: Closing::Mark(m),
+        },
+        Closing::Restored => Entry {
+            session: e.session,
+            closing: Closing::Restored,
         },
     }
 }

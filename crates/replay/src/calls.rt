@@ -100,6 +100,7 @@ pub fn read(line: &[u8], kind: u64) -> Asked {
         8 => issue(line),
         9 => Asked::Is(Call::Stop(fields::at(line, 1))),
         10 => Asked::Is(Call::Reassign),
+        29 => Asked::Is(Call::Restore(fields::at(line, 1))),
         _ => with_fate(line, kind),
     }
 }

@@ -20,7 +20,7 @@ const INDEX: usize = 300;
 const UNTOUCHED: u8 = 170;
 
 // Makes the call that a line asks for; false where its fate, its key or a length does not fit.
-pub fn fits(line: &[u8], m: &mut [u8], tables: &mut [u64], w: &mut Cells) -> bool {
+pub fn fits(line: &[u8], m: &mut [u8], tables: &mut [u64], backup: &[u8], w: &mut Cells) -> bool {
     let FateField::Is(f) = fates::read(line, 3) else {
         return false;
     };
@@ -45,7 +45,16 @@ pub fn fits(line: &[u8], m: &mut [u8], tables: &mut [u64], w: &mut Cells) -> boo
     let mut index = [UNTOUCHED; INDEX];
     let c = a as usize;
     let d = b as usize;
-    with_files(call, stamp, &mut file[0..c], &mut index[0..d], m, tables, w);
+    with_files(
+        call,
+        stamp,
+        &mut file[0..c],
+        &mut index[0..d],
+        m,
+        tables,
+        backup,
+        w,
+    );
     true
 }
 
@@ -56,9 +65,10 @@ fn with_files(
     index: &mut [u8],
     m: &mut [u8],
     tables: &mut [u64],
+    backup: &[u8],
     w: &mut Cells,
 ) {
-    perform::perform(call, stamp, file, index, m, tables, w);
+    perform::perform(call, stamp, file, index, m, tables, backup, w);
     perform::print_sum(sums::of_bytes(file));
     perform::print_sum(sums::of_bytes(index));
     print::text(b"\n");

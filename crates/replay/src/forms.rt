@@ -4,17 +4,25 @@
 //   19 held, 20 given, 21 data, 22 media: their last field is BYTES; 23 table; 24 fresh
 //   25 export: its last field is BYTES, its key
 //   26 recover: its last two fields are BYTES
-//   27 for a line that fits no form
+//   27 backup: its last field is BYTES; 28 keep; 29 restore, a call
+//   30 for a line that fits no form
 use replay_state::fields;
 use text::line;
 
-pub const CALLS: u64 = 11;
+const CALLS: u64 = 11;
 
 pub const EXPORT: u64 = 25;
 
 pub const RECOVER: u64 = 26;
 
-const NONE: u64 = 27;
+const RESTORE: u64 = 29;
+
+const NONE: u64 = 30;
+
+// Whether a line of this kind makes a call without files.
+pub fn is_call(kind: u64) -> bool {
+    kind < CALLS || kind == RESTORE
+}
 
 // Which of the words this is, from 0; how many there are where it is none.
 fn find(words: &[u8], word: &[u8]) -> u64 {
@@ -35,9 +43,9 @@ fn find(words: &[u8], word: &[u8]) -> u64 {
 fn count(kind: u64) -> usize {
     match kind {
         10 => 1,
-        9 | 20 | 21 => 2,
+        9 | 20 | 21 | 28 | 29 => 2,
         12 | 17 | 22 => 3,
-        11 | 19 | 23 | 24 => 4,
+        11 | 19 | 23 | 24 | 27 => 4,
         0 | 4 | 13 | 16 => 5,
         1 | 3 | 5 | 6 | 15 | 26 => 6,
         2 | 7 => 7,
@@ -49,7 +57,7 @@ fn count(kind: u64) -> usize {
 // How many of them are no numbers: the word, and BYTES.
 fn others(kind: u64) -> usize {
     match kind {
-        19..=22 | 25 => 2,
+        19..=22 | 25 | 27 => 2,
         26 => 3,
         _ => 1,
     }
@@ -58,7 +66,7 @@ fn others(kind: u64) -> usize {
 // The kind of a line.
 pub fn kind(line: &[u8]) -> u64 {
     let k = find(
-        b"take\tprepare\tcopy\ttrim\topen\tsend\tnote\tread\tissue\tstop\treassign\tshape\tregister\tentry\tserver\thanded\treplica\tlend\tlocks\theld\tgiven\tdata\tmedia\ttable\tfresh\texport\trecover",
+        b"take\tprepare\tcopy\ttrim\topen\tsend\tnote\tread\tissue\tstop\treassign\tshape\tregister\tentry\tserver\thanded\treplica\tlend\tlocks\theld\tgiven\tdata\tmedia\ttable\tfresh\texport\trecover\tbackup\tkeep\trestore",
         line::first(line),
     );
     if k == 18 {

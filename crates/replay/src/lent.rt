@@ -1,8 +1,9 @@
-// Lines about the two slices that the calls are lent: media and lock tables.
+// Lines about the slices that the calls are lent: media, lock tables and the bytes for a restore.
 ghost use mathlib.Core.Path.{_≡_};
 ghost use Prim.Native.Nat.{_*_, _≤_};
 ghost use lib.ListN.{length};
 ghost use Rattle.storage.specs.Sizes.{mediumSize};
+use crate::backups;
 use cluster::Shape;
 use replay_state::cells;
 use replay_state::cells::Cells;
@@ -82,10 +83,12 @@ fn lend(line: &[u8], w: &mut Cells) -> bool {
     true
 }
 
-// media, offset, BYTES.
-fn media(line: &[u8], m: &mut [u8]) -> bool {
-    let a = fields::at(line, 1);
-    let s = line::field(line, 2);
+// The bytes that field k + 1 has, from the offset that field k is.
+pub fn bytes(line: &[u8], k: usize, m: &mut [u8]) -> bool
+    requires { ⌜ k ≤ 8 ⌝ }
+{
+    let a = fields::at(line, k);
+    let s = line::field(line, k + 1);
     if (m.len() as u64) < a {
         return false;
     }
@@ -122,18 +125,22 @@ fn table(line: &[u8], tables: &mut [u64]) -> bool {
     true
 }
 
+// media, offset, BYTES, beside the lines of the others.
 pub fn hand_in(
     line: &[u8],
     kind: u64,
     m: &mut [u8; crate::MEDIA],
     tables: &mut [u64; crate::TABLES],
+    backup: &mut [u8; crate::BACKUP],
     w: &mut Cells,
 ) -> bool {
     match kind {
         17 => lend(line, w),
-        22 => media(line, m),
+        22 => bytes(line, 1, m),
         23 => table(line, tables),
         24 => fresh_line(line, m, tables, w),
+        27 => backups::hand_in(line, backup, w),
+        28 => backups::keep(line, m, backup, w),
         _ => state::hand_in(line, kind, w),
     }
 }

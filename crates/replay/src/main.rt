@@ -1,4 +1,4 @@
-// Drives the twelve calls and recoveries through the proved journal. Standard input has a line a command: it hands in a part of the state, which
+// Drives the thirteen calls and recoveries through the proved journal. Standard input has a line a command: it hands in a part of the state, which
 // prints nothing, or makes a call, whose reply and check sums of all state are a line of standard output; `bad` is printed where a
 // line fits no form. The lines, their forms and the output that stdout must equal come from the other implementation
 // (twin/src/replay.rs; its replay writes both files).
@@ -9,6 +9,7 @@ use replay_state::cells::ALL;
 use replay_state::cells::Cells;
 
 mod answer;
+mod backups;
 mod calls;
 mod export;
 mod forms;
@@ -23,6 +24,9 @@ const LIMIT: usize = 2000;
 pub const MEDIA: usize = 8008;
 
 pub const TABLES: usize = 4100;
+
+// Bytes for a restore: a medium of 15 places.
+pub const BACKUP: usize = 1144;
 
 // What stands for the end of the input where a byte is read.
 const END: usize = 256;
@@ -86,7 +90,7 @@ fn read(line: &mut [u8]) -> usize
 }
 
 // Answers every line.
-fn run(m: &mut [u8; MEDIA], tables: &mut [u64; TABLES], w: &mut Cells) {
+fn run(m: &mut [u8; MEDIA], tables: &mut [u64; TABLES], backup: &mut [u8; BACKUP], w: &mut Cells) {
     let mut line = [0u8; LIMIT];
     let mut turns = u64::MAX;
     while 0 < turns {
@@ -95,7 +99,7 @@ fn run(m: &mut [u8; MEDIA], tables: &mut [u64; TABLES], w: &mut Cells) {
             return;
         }
         let e = n - 1;
-        answer::told(answer::fits(&line[0..e], m, tables, w));
+        answer::told(answer::fits(&line[0..e], m, tables, backup, w));
         turns -= 1;
     }
 }
@@ -103,6 +107,7 @@ fn run(m: &mut [u8; MEDIA], tables: &mut [u64; TABLES], w: &mut Cells) {
 fn main() {
     let mut m = [0u8; MEDIA];
     let mut tables = [0u64; TABLES];
+    let mut backup = [0u8; BACKUP];
     let mut w = [0u64; ALL];
-    run(&mut m, &mut tables, &mut w);
+    run(&mut m, &mut tables, &mut backup, &mut w);
 }

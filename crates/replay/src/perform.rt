@@ -6,6 +6,7 @@ use cluster::Outcome;
 use cluster::Refusal;
 use cluster::Shape;
 use replay_state::cells;
+use replay_state::cells::BACKUP;
 use replay_state::cells::COUNT;
 use replay_state::cells::Cells;
 use replay_state::cells::DATA;
@@ -92,6 +93,7 @@ fn apply(
     index: &mut [u8],
     m: &mut [u8],
     tables: &mut [u64],
+    backup: &[u8],
     w: &Cells,
 ) -> Outcome {
     let data = cells::bytes(w, DATA);
@@ -109,6 +111,7 @@ fn apply(
         stamp,
         file,
         index,
+        some(backup, cells::at(w, BACKUP)),
     )
 }
 
@@ -135,9 +138,10 @@ fn make(
     index: &mut [u8],
     m: &mut [u8],
     tables: &mut [u64],
+    backup: &[u8],
     w: &mut Cells,
 ) {
-    let o = apply(call, stamp, file, index, m, tables, w);
+    let o = apply(call, stamp, file, index, m, tables, backup, w);
     keep(o, w);
     print_sums(m, tables, w);
 }
@@ -150,9 +154,19 @@ pub fn perform(
     index: &mut [u8],
     m: &mut [u8],
     tables: &mut [u64],
+    backup: &[u8],
     w: &mut Cells,
 ) {
     let a = least(cells::at(w, LENT), m.len());
     let b = least(cells::at(w, LENT + 1), tables.len());
-    make(call, stamp, file, index, &mut m[0..a], &mut tables[0..b], w);
+    make(
+        call,
+        stamp,
+        file,
+        index,
+        &mut m[0..a],
+        &mut tables[0..b],
+        backup,
+        w,
+    );
 }

@@ -9,7 +9,7 @@ use storage::sizes::Place;
 // A place, as numbers of eight bytes.
 pub const NUMBERS: usize = PLACE / LONG;
 
-// Of the register: session, generation, entries. An entry is three numbers: session, 0 if unresolved, closing mark.
+// Of the register: session, generation, entries. An entry is three numbers: session, 0 if unresolved and 2 if restored, closing mark.
 pub const ENTRIES: usize = 2;
 
 // Of each server: phase, session, generation, starting, issued and acknowledged mark; the entries that take handed over; standing
@@ -44,8 +44,11 @@ pub const LOCKS: usize = SIZE + 1;
 
 pub const COUNT: usize = LOCKS + 8;
 
+// The length at which the bytes for a restore are lent.
+pub const BACKUP: usize = COUNT + 1;
+
 // How many numbers all are.
-pub const ALL: usize = COUNT + 1;
+pub const ALL: usize = BACKUP + 1;
 
 pub type Cells = [u64; ALL];
 

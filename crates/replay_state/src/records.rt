@@ -16,20 +16,22 @@ use cluster::Records;
 use cluster::Register;
 use cluster::Server;
 
-// Session, 0 for unresolved or another number, closing mark: from number k on.
+// 0 unresolved, 2 restored, else closed at the mark.
+fn closing(n: u64, mark: u64) -> Closing {
+    match n {
+        0 => Closing::Unresolved,
+        2 => Closing::Restored,
+        _ => Closing::Mark(mark),
+    }
+}
+
+// Session, what the closing part is, closing mark: from number k on.
 fn entry(w: &[u64], k: usize) -> Entry
     requires { ⌜ k ≤ 1000 ⌝ }
 {
-    let session = cells::at(w, k);
-    if cells::at(w, k + 1) == 0 {
-        return Entry {
-            session: session,
-            closing: Closing::Unresolved,
-        };
-    }
     Entry {
-        session: session,
-        closing: Closing::Mark(cells::at(w, k + 2)),
+        session: cells::at(w, k),
+        closing: closing(cells::at(w, k + 1), cells::at(w, k + 2)),
     }
 }
 
@@ -130,13 +132,14 @@ pub fn of(w: &[u64]) -> Records {
     }
 }
 
-// Session, 0 for unresolved or 1, closing mark.
+// Session; 0 unresolved, 1 closed, 2 restored; closing mark.
 fn entry_numbers(e: Entry) -> [u64; 3] {
     let session = e.session;
     let c = e.closing;
     match c {
         Closing::Unresolved => [session, 0, 0],
         Closing::Mark(v) => [session, 1, v],
+        Closing::Restored => [session, 2, 0],
     }
 }
 

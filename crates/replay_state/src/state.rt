@@ -88,8 +88,8 @@ fn generation(kind: u64) -> usize {
 
 // shape, R, N, K; register, session, generation; entry, replica, ENTRY: of the register; server, number, phase (0 idle, 1 opening, else
 // open), session, generation, starting, issued and acknowledged mark; handed, server, replica, ENTRY: an entry that take handed over;
-// replica, server, replica, standing (0 out, 1 in, else dropped), recorded mark. ENTRY stands for session, 0 for unresolved or another
-// number, closing mark.
+// replica, server, replica, standing (0 out, 1 in, else dropped), recorded mark. ENTRY stands for session, 0 for unresolved, 2 for restored
+// or another number, closing mark.
 fn numbers(line: &[u8], kind: u64, w: &mut Cells) -> bool {
     let k = place(line, kind);
     if ALL <= k {

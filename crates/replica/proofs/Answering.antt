@@ -55,8 +55,8 @@ all-made AnswerLost g m ws e = refl
 all-made (Cut w l) g m ws e = let z : _≡_ {A = ℕ} 0 1 = cc in absurd (omega arith)
 
 -- what is heard of a message that is answered, or is not
-pub heard-mark : (f : Fate) (k n : ℕ) → answered f ≡ true → k ≡ n → Mark k ≡ whenAnswered f (Mark n)
-heard-mark f k n a e = rw (a, e)
+pub heard-mark : (f : Fate) (k n N : ℕ) (m : List ℕ) → answered f ≡ true → n ≡ N → k ≡ markOf n m → Mark k ≡ whenAnswered f (Mark (markOf N m))
+heard-mark f k n N m a e q = rw (a, q, e)
 
 pub heard-said : (f : Fate) (h k : Heard) → answered f ≡ true → h ≡ k → h ≡ whenAnswered f k
 heard-said f h k a e = rw a e
@@ -144,9 +144,9 @@ module _ (r : Read) (N : ℕ) (m : List ℕ) (e : r .places ≡ N) (a : AsRead r
         → readDeclines (prepares o) r s n ≡ false
         → m′ ≡ after f g (writesOf N bs o m) m
         → answered f ≡ true
-        → MarkKnown N o (r .mark) m′
+        → MarkKnown (r .places) o (r .slot .low) (r .mark) m′
     known-mark m′ l p d b w q =
-        rw (w ∙ all-made f g m (writesOf N bs o m) q, mark-of)
+        rw (w ∙ all-made f g m (writesOf N bs o m) q, e, slot-of, mark-of)
         (performed-mark N o bs m (a .size ∙ ap mediumSize e) l p (behind o d b))
 
   -- read writes nothing

@@ -137,7 +137,7 @@ pub fn answer(
     }
     operation::perform(t, m, r, op, src, given, f);
     if answers(f) {
-        return Heard::Mark(operation::mark_after(t, m, places as usize, op, r.mark as u64));
+        return Heard::Mark(operation::mark_after(t, m, r, op));
     }
     Heard::Silent
 }

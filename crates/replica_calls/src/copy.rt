@@ -10,7 +10,7 @@ ghost use Rattle.storage.specs.Operations.{mediumAt};
 ghost use Rattle.cluster.specs.declared.Call.the-variants as call;
 ghost use Rattle.cluster.specs.declared.Records.{Records};
 ghost use Rattle.cluster.specs.State.{serverAt};
-ghost use Rattle.cluster.specs.Refusals.{notTwo, refusesAt, copyRows, firstOf};
+ghost use Rattle.cluster.specs.Refusals.{notTwo, isOpening, refusesAt, restoredSource, unfitSource, copyRows, firstOf};
 ghost use Rattle.cluster.specs.Step.{onceAdmitted, step};
 ghost use Rattle.checks.specs.Verdicts.{verdictOf};
 ghost use Rattle.checks.specs.Results.{stateOf, inputOf, resultOf, changed};
@@ -19,11 +19,14 @@ use checks::Change;
 use checks::Check;
 use checks::admit_replica;
 use checks::also;
+use checks::both;
 use checks::declined;
 use checks::either;
 use checks::settle;
 use checks::unchanged_server;
+use checks::vote::restored_at;
 use cluster::Outcome;
+use cluster::Phase;
 use cluster::Phases;
 use cluster::Records;
 use cluster::Refusal;
@@ -45,8 +48,27 @@ fn not_two(r: u64, from: u64, to: u64) -> bool
     either(either(r <= from, r <= to), from == to)
 }
 
-// 17: the replica that is read would decline.
-fn source_unfit(t: &Tables, shape: Shape, v: Server, media: &[u8], from: usize) -> bool
+fn is_opening(p: Phase) -> bool
+    ensures { λ b. ⌜ b ≡ isOpening p ⌝ }
+{
+    match p {
+        Phase::Idle => false,
+        Phase::Opening => true,
+        Phase::Open => false,
+    }
+}
+
+// A restored replica is no source until a session has opened with it: then it is ordinary, though the entry handed over at take still says restored.
+fn source_restored(v: Server, from: usize) -> bool
+    requires { ⌜ from < 7 ⌝ }
+    ensures { λ c. ⌜ c ≡ restoredSource v from ⌝ }
+{
+    let p = v.phase;
+    both(is_opening(p), restored_at(v, from))
+}
+
+// The replica that is read would decline.
+fn source_declines(t: &Tables, shape: Shape, v: Server, media: &[u8], from: usize) -> bool
     requires { ⌜ now t ≡ tablesOf ⌝ }
     requires { ⌜ Named shape v from (length (now media)) ⌝ }
     ensures { λ c. ⌜ c ≡ refusesAt (shape .places) v (now (media .entry)) from ⌝ }
@@ -56,6 +78,18 @@ fn source_unfit(t: &Tables, shape: Shape, v: Server, media: &[u8], from: usize) 
     let at = span.at;
     let end = span.end;
     replica::unfit(t, &media[at..end], shape.places, v.session, recorded)
+}
+
+// 17: the replica that is read is restored, or would decline.
+fn source_unfit(t: &Tables, shape: Shape, v: Server, media: &[u8], from: usize) -> bool
+    requires { ⌜ now t ≡ tablesOf ⌝ }
+    requires { ⌜ Named shape v from (length (now media)) ⌝ }
+    ensures { λ c. ⌜ c ≡ unfitSource (shape .places) v (now (media .entry)) from ⌝ }
+{
+    either(
+        source_restored(v, from),
+        source_declines(t, shape, v, media, from),
+    )
 }
 
 // 6, 7, 16 and 17.

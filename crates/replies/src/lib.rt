@@ -72,6 +72,7 @@ pub fn number_of(why: Refusal) -> u64
         Refusal::OtherMark => 20,
         Refusal::AtTop => 21,
         Refusal::OtherSession => 22,
+        Refusal::NoBackupSlot => 30,
     }
 }
 

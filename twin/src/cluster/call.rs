@@ -1,4 +1,4 @@
-//! The twelve calls as values, and one function that makes any of them.
+//! The thirteen calls as values, and one function that makes any of them.
 
 use super::{Cluster, Reply};
 use crate::fate::Fate;
@@ -63,6 +63,7 @@ pub enum Call {
     Export { server: u64, replica: u64, stamp: Stamp, files: Pair, message: Message },
     Stop { server: u64 },
     Reassign,
+    Restore { replica: u64, backup: Vec<u8> },
 }
 
 impl Cluster {
@@ -85,6 +86,7 @@ impl Cluster {
             }
             Call::Stop { server } => self.stop(*server),
             Call::Reassign => self.reassign(),
+            Call::Restore { replica, backup } => self.restore(*replica, backup),
         }
     }
 }

@@ -23,7 +23,7 @@ impl Cluster {
     /// Every mark of the register and the server records, but none from R up.
     fn marks(&self) -> impl Iterator<Item = u64> + '_ {
         let closing = |entries: &[Entry; MOST_REPLICAS]| {
-            entries.map(|entry| entry.closing).into_iter().take(self.replicas()).flatten()
+            entries.map(|entry| entry.closing.mark()).into_iter().take(self.replicas()).flatten()
         };
         let of_servers = self.records.servers.iter().flat_map(move |server| {
             let recorded = server.marks.into_iter().take(self.replicas());
@@ -68,10 +68,8 @@ impl Cluster {
     /// 8; otherwise the majority mark.
     pub(super) fn check_decided(&self, server: usize) -> Result<u64, Refusal> {
         let record = &self.records.servers[server];
-        let known: [Option<u64>; MOST_REPLICAS] = std::array::from_fn(|replica| {
-            (record.standings[replica] == Standing::In).then_some(record.marks[replica])
-        });
-        votes::decided(&known[..self.replicas()]).ok_or(Refusal::Undecided)
+        let votes: [_; MOST_REPLICAS] = std::array::from_fn(|replica| record.vote(replica));
+        votes::decided(&votes[..self.replicas()]).ok_or(Refusal::Undecided)
     }
 }
 

@@ -1,6 +1,6 @@
 //! recover: a whole recovery, as the calls that it makes (document 02, No. 9).
 
-use super::{Answer, Cluster, Message, Phase, Refusal, Reply, Standing};
+use super::{Answer, Cluster, Message, Phase, Refusal, Reply, Server};
 use crate::fate::Fate;
 use crate::medium::PLACE_BYTES;
 
@@ -65,9 +65,11 @@ impl Driver<'_> {
             // "It passes over a replica that declines or is silent": such a one is not known.
             let _ = self.cluster.prepare(self.server, replica, &message);
         }
-        let marks = || listed.iter().filter_map(|&replica| Some((replica, self.known(replica)?)));
-        let highest = marks().map(|(_, mark)| mark).max();
-        let source = marks().find(|(_, mark)| Some(*mark) == highest);
+        // "The driver takes its highest mark from the others, copies from none such", but to them.
+        let vote = |replica: u64| self.record().vote(replica as usize);
+        let votes = || listed.iter().filter_map(|&replica| Some((replica, vote(replica)?)));
+        let highest = votes().map(|(_, mark)| mark).max();
+        let source = votes().find(|(_, mark)| Some(*mark) == highest);
         if let Some((source, highest)) = source {
             listed.iter().for_each(|&replica| self.lift(replica, source, highest));
         }
@@ -77,7 +79,7 @@ impl Driver<'_> {
 
     /// Copies until the replica reaches the highest mark, or until a copy is without ok.
     fn lift(&mut self, replica: u64, source: u64, highest: u64) {
-        while self.known(replica).is_some_and(|mark| mark < highest) {
+        while self.record().known_mark(replica as usize).is_some_and(|mark| mark < highest) {
             let message = self.next_message();
             if !is_answered(&self.cluster.copy(self.server, source, replica, &message)) {
                 return;
@@ -85,11 +87,8 @@ impl Driver<'_> {
         }
     }
 
-    /// The recorded mark of a replica that is known.
-    fn known(&self, replica: u64) -> Option<u64> {
-        let record = &self.cluster.records.servers[self.server as usize];
-        let replica = replica as usize;
-        (record.standings[replica] == Standing::In).then_some(record.marks[replica])
+    fn record(&self) -> &Server {
+        &self.cluster.records.servers[self.server as usize]
     }
 
     /// The message of the next call.

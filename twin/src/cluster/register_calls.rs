@@ -3,6 +3,7 @@
 use super::checks::{check_uncut, received};
 use super::{Answer, Cluster, Entry, Phase, Refusal, Reply, Server, Standing};
 use crate::fate::Fate;
+use crate::replica::Closing;
 use crate::votes::MOST_REPLICAS;
 
 impl Cluster {
@@ -52,25 +53,24 @@ impl Cluster {
         Ok(Answer::Number(mark))
     }
 
-    /// The known replicas exactly at the mark.
+    /// The known replicas exactly at the mark, restored or not: "If it stands at the decided mark at open it
+    /// counts as clean".
     fn clean(&self, server: usize, mark: u64) -> [bool; MOST_REPLICAS] {
         let record = &self.records.servers[server];
         std::array::from_fn(|replica| {
-            replica < self.replicas()
-                && record.standings[replica] == Standing::In
-                && record.marks[replica] == mark
+            replica < self.replicas() && record.known_mark(replica) == Some(mark)
         })
     }
 
     /// Clean entries become this session's; other unresolved ones are closed at the mark; the rest
-    /// remain.
+    /// remain, and a restored one "stays restored".
     fn register_opening(&mut self, session: u64, mark: u64, clean: [bool; MOST_REPLICAS]) {
         let entries = &mut self.records.register.entries[..self.shape.replicas as usize];
         for (entry, clean) in entries.iter_mut().zip(clean) {
             if clean {
-                *entry = Entry { session, closing: None };
-            } else {
-                entry.closing = entry.closing.or(Some(mark));
+                *entry = Entry { session, closing: Closing::Unresolved };
+            } else if entry.closing == Closing::Unresolved {
+                entry.closing = Closing::Mark(mark);
             }
         }
     }

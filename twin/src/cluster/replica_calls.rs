@@ -8,8 +8,8 @@ use crate::replica::{Found, Operation};
 use crate::votes::highest_reached;
 
 impl Cluster {
-    /// The replica promises the session and truncates to its entry's closing mark; it answers its
-    /// mark and is known.
+    /// The replica promises the session and truncates as its entry says, the one that take handed over; it
+    /// answers its mark and is known.
     pub fn prepare(&mut self, server: u64, replica: u64, message: &Message) -> Reply {
         let (server, replica) = self.check_addressed(server, replica, Phase::Opening)?;
         self.check_message(message)?;
@@ -33,6 +33,9 @@ impl Cluster {
         self.check_standing(server, to)?;
         let marks = self.records.servers[server].marks;
         Refusal::NothingToDo.when(marks[to] >= marks[from])?;
+        // "copying from it meets refusal 17": once open, a member is like any other.
+        let opening = self.records.servers[server].phase == Phase::Opening;
+        Refusal::UnfitSource.when(opening && self.records.servers[server].is_restored(from))?;
         self.agreeing(server, from).map_err(|_| Refusal::UnfitSource)?;
         let bytes = medium::place(self.medium(from), marks[to] + 1);
         self.append(server, to, bytes, message)
@@ -162,7 +165,7 @@ impl Cluster {
         let medium = self.medium_mut(replica);
         perform(medium, operation.writes(found), message.fate, &message.given);
         let answered = message.fate == Fate::Answered;
-        Ok(answered.then(|| medium::mark_above(medium, operation.keeps(found.mark))))
+        Ok(answered.then(|| medium::mark_above(medium, operation.keeps(found))))
     }
 
     /// What the server makes of the replica's answer. An opening server forgets a silent replica,

@@ -1,6 +1,6 @@
 //! Replies: an answer, silence, or the number of the first reason to decline.
 
-use std::ops::RangeFrom;
+use std::ops::RangeInclusive;
 
 use crate::medium::PlaceBytes;
 
@@ -63,12 +63,16 @@ pub enum Refusal {
     /// A number that cannot be raised.
     AtTop,
     OtherSession,
+    /// The bytes of a restore "have no valid slot" (document 02, No. 10).
+    UnfitBackup,
 }
 
 /// The rows of the list, by their numbers, in the order in which they are checked. 1 has a second row:
 /// "for an export's two files this is checked after 20".
-pub const ORDER: [u64; 26] =
-    [1, 2, 3, 4, 5, 29, 6, 7, 8, 9, 10, 11, 12, 28, 13, 14, 23, 15, 16, 17, 18, 19, 20, 1, 21, 22];
+pub const ORDER: [u64; 27] = [
+    1, 2, 3, 4, 5, 29, 6, 7, 8, 9, 10, 11, 12, 28, 13, 14, 23, 15, 16, 17, 18, 19, 20, 1, 21, 22,
+    30,
+];
 
 /// The row of a recovery's list. No call has it: the driver declines "only by 1 to 5 and 29".
 pub const LIST_ROW: usize = 5;
@@ -76,8 +80,8 @@ pub const LIST_ROW: usize = 5;
 /// The row of the lengths of export's files.
 pub const FILES_ROW: usize = 23;
 
-/// The rows from that of 18 on: seen only if the message is answered.
-pub const BY_RECEIVER: RangeFrom<usize> = 20..;
+/// The rows of 18 to 22: of a message they are seen only if it is answered.
+pub const BY_RECEIVER: RangeInclusive<usize> = 20..=25;
 
 impl Refusal {
     /// Its number in document 01's list, which document 02 goes on with from 23.
@@ -108,6 +112,7 @@ impl Refusal {
             Refusal::OtherMark => 20,
             Refusal::AtTop => 21,
             Refusal::OtherSession => 22,
+            Refusal::UnfitBackup => 30,
         }
     }
 

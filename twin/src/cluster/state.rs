@@ -2,6 +2,7 @@
 
 use crate::locks::TABLE_MARKS;
 use crate::medium::{self, PlaceBytes, MOST_PLACES, WIPED};
+use crate::replica::Closing;
 use crate::votes::{quorum, MOST_REPLICAS};
 
 pub const SERVERS: usize = 4;
@@ -37,11 +38,11 @@ impl Shape {
     }
 }
 
-/// What the register holds of one replica; a closing mark of `None` is unresolved.
+/// What the register holds of one replica.
 #[derive(Clone, Copy, Debug, Default, PartialEq, Eq)]
 pub struct Entry {
     pub session: u64,
-    pub closing: Option<u64>,
+    pub closing: Closing,
 }
 
 #[derive(Clone, Copy, Debug, Default, PartialEq, Eq)]
@@ -91,6 +92,21 @@ pub struct Server {
 }
 
 impl Server {
+    /// Whether take handed the replica's entry over as restored.
+    pub fn is_restored(&self, replica: usize) -> bool {
+        self.entries[replica].closing == Closing::Restored
+    }
+
+    /// The recorded mark of a replica that is known, or a member that was never silent.
+    pub fn known_mark(&self, replica: usize) -> Option<u64> {
+        (self.standings[replica] == Standing::In).then_some(self.marks[replica])
+    }
+
+    /// The same, unless the replica is restored: it "counts as absent in the vote".
+    pub fn vote(&self, replica: usize) -> Option<u64> {
+        self.known_mark(replica).filter(|_| !self.is_restored(replica))
+    }
+
     /// The record of this ID, if it is held: "Held are the IDs above the starting mark and above
     /// issued − 8, up to issued."
     pub fn held_record(&self, id: u64) -> Option<&PlaceBytes> {

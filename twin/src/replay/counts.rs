@@ -1,6 +1,6 @@
 //! What a run meets: replies of each call, fates, intervals, what gates and booking clients ask for, locks
 //! around the client's mark, ends of exported logs, records in flight, sequences, given bytes, header 0 in
-//! requests and in records; and recoveries.
+//! requests and in records; recoveries, and media from backups.
 
 use std::collections::BTreeMap;
 use std::fmt;
@@ -10,14 +10,15 @@ use super::names::{beside_name, zero_name, BESIDE, GIVEN, SEQUENCES};
 use super::names::{given_name, in_flight, sent_index, sequence_name, unsent_name};
 use super::names::{AMOUNTS, CLIENTS, ENDS, ESTIMATES, FATES, INTERVALS, UNSENT};
 use super::recovery_counts::Recoveries;
+use super::restore_counts::Restores;
 use super::texts::word;
 use crate::cluster::{Answer, Call, Cluster, Refusal, Reply, HELD, ORDER};
 use crate::tries::headers::{use_of_zero, USES};
 use crate::tries::recoveries::Recovery;
 
-pub const CALLS: [&str; 12] = [
+pub const CALLS: [&str; 13] = [
     "take", "prepare", "copy", "trim", "open", "issue", "send", "note", "read", "export", "stop",
-    "reassign",
+    "reassign", "restore",
 ];
 
 #[derive(Default)]
@@ -58,6 +59,7 @@ pub struct Counts {
     /// Sessions opened after that.
     forced: u64,
     recoveries: Recoveries,
+    restores: Restores,
 }
 
 impl Counts {
@@ -79,6 +81,7 @@ impl Counts {
         self.add_names(cluster, call, reply);
         self.add_change(call, reply);
         self.recoveries.add_call(cluster, call, reply);
+        self.restores.add(cluster, call, reply);
     }
 
     /// Adds a recovery on this cluster, which is as it found it. The calls that it makes are no calls of the
@@ -254,6 +257,10 @@ impl Counts {
         &self.recoveries
     }
 
+    pub fn restores(&self) -> &Restores {
+        &self.restores
+    }
+
     pub fn calls(&self) -> u64 {
         self.ok.values().chain(self.silent.values()).chain(self.refused.values()).sum()
     }
@@ -262,7 +269,7 @@ impl Counts {
 /// A table of replies by call, in which 1 stands once more behind 20 (the lengths of export's files); one
 /// of fates and one of K by call, one of what clients ask for, one of estimates, one of ends, one of
 /// sequences, one of given bytes, three of header 0, what was in flight and held, and the writes that were cut;
-/// then the recoveries.
+/// then the recoveries and the restores.
 impl fmt::Display for Counts {
     fn fmt(&self, f: &mut fmt::Formatter<'_>) -> fmt::Result {
         write!(f, "{:9}{:>6}{:>7}", "call", "ok", "silent")?;
@@ -291,7 +298,7 @@ impl fmt::Display for Counts {
         let cuts = &mut FATES[3..].iter();
         cuts.try_for_each(|fate| write!(f, "\n{fate} at writes {:?}", self.writes(fate)))?;
         write!(f, "\n{} sessions opened after number 23", self.forced())?;
-        write!(f, "\n{} calls\n{}\n", self.calls(), self.recoveries)
+        write!(f, "\n{} calls\n{}\n{}\n", self.calls(), self.recoveries, self.restores)
     }
 }
 

@@ -3,7 +3,7 @@
 use super::recorder::Recorder;
 use super::{
     exports, header_zero, in_flight, limits, locks, random_states, recoveries, recovery_fates,
-    recovery_lists, recovery_states, scenes, sequences, Run,
+    recovery_lists, recovery_states, restore_states, restores, scenes, sequences, Run,
 };
 use crate::cluster::{Call, Cluster, Shape};
 use crate::fate::Fate;
@@ -12,6 +12,7 @@ use crate::random::Random;
 use crate::tries::caller::Caller;
 use crate::tries::headers::with_headers;
 use crate::tries::recoveries::draw_recovery;
+use crate::tries::restores::draw_restorable;
 use crate::tries::scene::record_bytes;
 use crate::tries::useful;
 
@@ -37,10 +38,14 @@ const LISTS: u64 = 3;
 /// One take in this many is that of a recovery.
 const RECOVERIES: u64 = 5;
 
+/// Before one call in this many a medium is kept or restored.
+const RESTORES: u64 = 9;
+
 pub fn replay(random: &mut Random) -> Run {
     let mut recorder = Recorder::new();
     bad_lines(&mut recorder);
     recoveries::bad_lines(&mut recorder);
+    restores::bad_lines(&mut recorder);
     any_interval(&mut recorder);
     locks::list(&mut recorder);
     exports::list(&mut recorder);
@@ -52,6 +57,8 @@ pub fn replay(random: &mut Random) -> Run {
     recovery_fates::replay(&mut recorder);
     recovery_lists::replay(&mut recorder, random);
     recovery_states::replay(&mut recorder);
+    restores::list(&mut recorder);
+    restore_states::replay(&mut recorder, random);
     limits::replay(&mut recorder);
     scenes::replay(&mut recorder, random);
     in_flight::replay(&mut recorder);
@@ -132,12 +139,17 @@ fn any_interval(recorder: &mut Recorder) {
 }
 
 /// Calls that get somewhere, from a fresh cluster; fewer where the log is soon full. Under a release before,
-/// a part of what the first half stored and held had header 0.
+/// a part of what the first half stored and held had header 0. Media are kept and restored, at the end also the
+/// last that make up a majority.
 fn list(recorder: &mut Recorder, random: &mut Random, shape: Shape, begun_before: bool) {
     recorder.fresh(shape);
     let caller = Caller::new(random);
     let calls = if shape.places < 5 { 70 } else { 130 };
+    let mut kept = None;
     for number in 0..calls {
+        if random.chance(RESTORES) {
+            restore(recorder, random, &mut kept, calls - number < 12);
+        }
         if begun_before && number == calls / 2 {
             recorder.hand_in(with_headers(recorder.cluster(), |record| {
                 if record.id % 2 == 0 {
@@ -148,6 +160,25 @@ fn list(recorder: &mut Recorder, random: &mut Random, shape: Shape, begun_before
             }));
         }
         next(recorder, random, &caller);
+    }
+}
+
+/// Restores the medium that was kept, if a majority of others is left or it may be the last; often another is
+/// kept then.
+fn restore(
+    recorder: &mut Recorder,
+    random: &mut Random,
+    kept: &mut Option<(u64, Vec<u8>)>,
+    last: bool,
+) {
+    let fit = draw_restorable(random, recorder.cluster());
+    if let Some((replica, backup)) = kept.take_if(|(it, _)| last || fit == Some(*it)) {
+        let _ = recorder.call(&Call::Restore { replica, backup });
+    }
+    if kept.is_none() || random.chance(2) {
+        let replica = fit.unwrap_or(0);
+        recorder.keep(replica);
+        *kept = Some((replica, recorder.cluster().medium(replica as usize).to_vec()));
     }
 }
 

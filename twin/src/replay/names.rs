@@ -55,7 +55,7 @@ pub fn fate_of(call: &Call) -> Option<Fate> {
         | Call::Note { message, .. }
         | Call::Read { message, .. }
         | Call::Export { message, .. } => Some(message.fate),
-        Call::Issue { .. } | Call::Stop { .. } | Call::Reassign => None,
+        Call::Issue { .. } | Call::Stop { .. } | Call::Reassign | Call::Restore { .. } => None,
     }
 }
 

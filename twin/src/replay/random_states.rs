@@ -2,7 +2,7 @@
 
 use super::list;
 use super::recorder::Recorder;
-use crate::cluster::{Cluster, Phase, Records, Shape, HELD};
+use crate::cluster::{Closing, Cluster, Phase, Records, Shape, HELD};
 use crate::medium;
 use crate::random::Random;
 use crate::tries::caller::Caller;
@@ -86,8 +86,8 @@ fn corners(random: &mut Random, cluster: &mut Cluster) {
     }
     if cluster.shape.replicas < 7 && random.chance(2) {
         let Records { register, servers } = &mut cluster.records;
-        register.entries[6].closing = Some(u64::MAX);
-        servers[0].entries[6].closing = Some(u64::MAX);
+        register.entries[6].closing = Closing::Mark(u64::MAX);
+        servers[0].entries[6].closing = Closing::Mark(u64::MAX);
         servers[0].marks[6] = u64::MAX;
     }
 }

@@ -1,20 +1,25 @@
 //! Writes the lines of a run and what they print, and makes its calls.
 
-use super::state_lines::{media_lines, record_lines, shape_line, table_lines};
+use super::state_lines::{backup_lines, media_lines, record_lines, shape_line, table_lines};
 use super::sums::{file_sums, sums};
 use super::texts::{call_line, line, recovery_line, reply_text};
 use super::{Counts, Run};
 use crate::cluster::{Call, Cluster, Message, Records, Reply, Shape};
 use crate::fate::{Fate, Left};
 use crate::hex;
-use crate::medium::{PlaceBytes, WIPED};
+use crate::medium::{medium_bytes, put, PlaceBytes, WIPED};
 use crate::segment::Pair;
 use crate::tries::recoveries::Recovery;
+use crate::tries::restores::{MOST_BACKUP, MOST_BACKUP_PLACES};
 use crate::tries::scene::UNWRITTEN;
+use crate::votes::MOST_REPLICAS;
 
 /// What the program holds of media and lock tables, which is more than it lends.
 const MEDIA: usize = 8008;
 const TABLES: usize = 4100;
+
+/// What it holds for a backup, which is more than it lends too.
+const BACKUP: usize = MOST_BACKUP;
 
 /// What it holds for each file of an export.
 const FILES: [usize; 2] = [1200, 300];
@@ -29,6 +34,9 @@ pub struct Recorder {
     given: PlaceBytes,
     data: Vec<u8>,
     locks: Vec<u64>,
+    /// What the program holds of a backup, and at which length it is lent.
+    backup: Vec<u8>,
+    backup_length: usize,
     run: Run,
 }
 
@@ -43,6 +51,8 @@ impl Recorder {
             given: WIPED,
             data: Vec::new(),
             locks: Vec::new(),
+            backup: vec![0; BACKUP],
+            backup_length: 0,
             run: Run { input: String::new(), output: String::new(), counts: Counts::default() },
         }
     }
@@ -65,6 +75,11 @@ impl Recorder {
     pub fn bad(&mut self, line: &str) {
         self.line(line);
         self.run.output += "bad\n";
+    }
+
+    /// A line that hands in what is there already.
+    pub fn same(&mut self, line: &str) {
+        self.line(line);
     }
 
     /// A fresh cluster with any K: it is the calls that judge it.
@@ -144,6 +159,7 @@ impl Recorder {
                 *files = lent(files.lengths());
             }
             Call::Issue { request, .. } => self.hand_in_request(&request.data, &request.locks),
+            Call::Restore { backup, .. } => self.hand_in_backup(backup),
             _ => {}
         }
         call
@@ -161,6 +177,52 @@ impl Recorder {
             self.line(&format!("given\t{}", hex::encode(&given)));
         }
         self.given
+    }
+
+    /// Makes the backup what the replica's medium holds now.
+    pub fn keep(&mut self, replica: u64) {
+        self.line(&line("keep", &[replica]));
+        let kept = self.kept(replica);
+        self.backup_length = kept.len();
+        put(&mut self.backup, 0, &kept);
+    }
+
+    /// A restore with what the program holds of a backup, at a medium's length.
+    pub fn restore_held(&mut self, replica: u64) -> Reply {
+        let length = medium_bytes(self.cluster.shape.places as usize);
+        let backup = self.backup[..length].to_vec();
+        self.call(&Call::Restore { replica, backup })
+    }
+
+    /// The bytes of the replica's medium, also where they lie behind what is lent.
+    fn kept(&self, replica: u64) -> Vec<u8> {
+        let places = self.cluster.shape.places.min(MOST_BACKUP_PLACES);
+        let length = medium_bytes(places as usize);
+        self.media[replica as usize * length..][..length].to_vec()
+    }
+
+    /// Hands in the backup as far as it differs from the one held; where that is shorter, a medium is kept
+    /// first.
+    fn hand_in_backup(&mut self, wanted: &[u8]) {
+        let cost = |lines: &[String]| lines.iter().map(|line| line.len() + 1).sum::<usize>();
+        let lines = backup_lines(&self.backup, self.backup_length, wanted);
+        let from_medium = |replica: u64| {
+            let kept = self.kept(replica);
+            let held = [&kept, &self.backup[kept.len()..]].concat();
+            cost(&backup_lines(&held, kept.len(), wanted)) + "keep\t0\n".len()
+        };
+        let nearest = (0..MOST_REPLICAS as u64).min_by_key(|&replica| from_medium(replica));
+        match nearest.filter(|&replica| from_medium(replica) < cost(&lines)) {
+            Some(replica) => {
+                self.keep(replica);
+                self.hand_in_backup(wanted);
+            }
+            None => {
+                lines.iter().for_each(|line| self.line(line));
+                self.backup_length = wanted.len();
+                put(&mut self.backup, 0, wanted);
+            }
+        }
     }
 
     fn hand_in_request(&mut self, data: &[u8], locks: &[u64]) {

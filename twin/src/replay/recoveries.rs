@@ -3,7 +3,7 @@
 use super::calls::{check, copy, message, number, open, prepare, send, take};
 use super::recorder::Recorder;
 use super::texts::numbers_hex;
-use crate::cluster::{Answer, Call, Cluster, Phase, SERVERS};
+use crate::cluster::{Answer, Call, Closing, Cluster, Phase, SERVERS};
 use crate::fate::Fate;
 use crate::medium::{current, is_place, place, place_at, put, PlaceBytes, Record, PLACE_BYTES};
 use crate::tries::headers::with_header;
@@ -125,7 +125,7 @@ pub fn rewound(recorder: &mut Recorder, marks: &[u64]) -> Cluster {
     let mut cluster = recorder.cluster().clone();
     let Cluster { shape, records, .. } = &mut cluster;
     let (places, session) = (shape.places, records.register.session);
-    records.register.entries.iter_mut().for_each(|entry| entry.closing = None);
+    records.register.entries.iter_mut().for_each(|entry| entry.closing = Closing::Unresolved);
     for (replica, &mark) in marks.iter().enumerate() {
         let medium = cluster.medium_mut(replica);
         if current(medium).is_none_or(|(_, slot)| slot.promise > session) {

@@ -35,10 +35,10 @@ pub const STEPS: [&str; 4] = ["take", "prepare", "copy", "open"];
 pub const PASSED: [&str; 6] =
     ["prepare 6", "prepare 18", "prepare 19", "prepare silent", "copy 6", "copy silent"];
 
-/// What else there is to a recovery; `recovery_trace` says when. The last five are of what comes after one: the
-/// next one after one that did not open, a replica that declines an older server, and calls of the session that
-/// it opened, or the next take.
-pub const FEATURES: [&str; 22] = [
+/// What else there is to a recovery; `recovery_trace` says when. Those from "restart" on are of what comes after
+/// one: the next one after one that did not open, a replica that declines an older server, and calls of the
+/// session that it opened, or the next take.
+pub const FEATURES: [&str; 28] = [
     "none known",
     "no copies",
     "not first",
@@ -56,6 +56,12 @@ pub const FEATURES: [&str; 22] = [
     "unfit left",
     "others torn",
     "far write",
+    "to restored",
+    "restored higher",
+    "restored passed",
+    "only restored",
+    "restored clean",
+    "restored left",
     "restart",
     "old server",
     "issue after",

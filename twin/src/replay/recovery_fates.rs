@@ -3,7 +3,7 @@
 
 use super::recorder::Recorder;
 use super::recoveries::{recover, rewind, rewound};
-use crate::cluster::Entry;
+use crate::cluster::{Closing, Entry};
 use crate::fate::{Fate, Left};
 use crate::medium::{put, PlaceBytes, Slot, PLACE_BYTES, WIPED};
 use crate::tries::recoveries::{Recovery, MOST_FATES};
@@ -118,7 +118,7 @@ fn far_writes(recorder: &mut Recorder) {
 fn truncations(recorder: &mut Recorder) {
     for fate in fates(4) {
         let mut cluster = rewound(recorder, &[1, 1, 2]);
-        cluster.records.register.entries[2] = Entry { session: 1, closing: Some(0) };
+        cluster.records.register.entries[2] = Entry { session: 1, closing: Closing::Mark(0) };
         recorder.hand_in(cluster);
         with_one(recorder, 2, 1, fate);
         recover(recorder, 3, &[0, 2, 1], &[]);

@@ -3,7 +3,7 @@
 
 use super::recorder::Recorder;
 use super::recoveries::{recover, rewound, row};
-use crate::cluster::{Entry, Phase, Records, Shape, Standing};
+use crate::cluster::{Closing, Phase, Records, Shape, Standing};
 use crate::fate::{Fate, Left};
 use crate::medium::SLOT_BYTES;
 use crate::tries::recovery_faults::{faults, sound, with_faults, Fault, Try, OWN};
@@ -117,7 +117,7 @@ fn promises(recorder: &mut Recorder) {
         let mut cluster = rewound(recorder, &[2, 3, 1]);
         let promise = cluster.records.register.session + 1;
         set_promise(cluster.medium_mut(1), promise);
-        cluster.records.register.entries[1].closing = Some(1);
+        cluster.records.register.entries[1].closing = Closing::Mark(1);
         recorder.hand_in(cluster);
         recover(recorder, 1, &[0, 1, 2], &[Fate::Answered, Fate::Answered, fate]);
         recover(recorder, 2, &[2, 1, 0], &[]);
@@ -138,7 +138,7 @@ fn closing_marks(recorder: &mut Recorder) {
     for (closing, text) in rows {
         let mut cluster = rewound(recorder, &[2, 4, 1]);
         for (entry, closing) in cluster.records.register.entries.iter_mut().zip(closing) {
-            *entry = Entry { closing, ..*entry };
+            entry.closing = closing.map_or(Closing::Unresolved, Closing::Mark);
         }
         recorder.hand_in(cluster);
         row(recorder, text);
@@ -150,10 +150,10 @@ fn closing_marks(recorder: &mut Recorder) {
 fn any_records(recorder: &mut Recorder) {
     let mut cluster = rewound(recorder, &[0, 2, 1]);
     let Records { register, servers } = &mut cluster.records;
-    register.entries[3].closing = Some(u64::MAX);
+    register.entries[3].closing = Closing::Mark(u64::MAX);
     for (server, phase) in servers.iter_mut().zip([Phase::Open, Phase::Idle, Phase::Opening]) {
         (server.phase, server.session, server.generation) = (phase, register.session, 3);
-        server.entries[1].closing = Some(0);
+        server.entries[1].closing = Closing::Mark(0);
         server.standings.fill(Standing::In);
         server.marks = [6, 5, 4, u64::MAX, 0, 1, u64::MAX];
         (server.starting, server.issued, server.acknowledged) = (1, 6, 2);

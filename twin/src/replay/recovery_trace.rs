@@ -1,6 +1,6 @@
 //! The calls that a recovery makes, and what there is to them.
 
-use crate::cluster::{Answer, Call, Cluster, Reply};
+use crate::cluster::{Answer, Call, Closing, Cluster, Reply};
 use crate::fate::{Fate, Left};
 use crate::medium::{self, passes};
 use crate::tries::recoveries::Recovery;
@@ -23,7 +23,7 @@ impl Trace {
     /// Of a recovery that the driver does not decline itself.
     pub fn of(before: &Cluster, recovery: &Recovery) -> Trace {
         let (mut cluster, mut steps) = (before.clone(), Vec::new());
-        let end = recovery.by_hand(|mut call| {
+        let end = recovery.by_hand(&before.records.register, |mut call| {
             let before = cluster.clone();
             let reply = cluster.apply(&mut call);
             steps.push(Step { before, call, reply });
@@ -71,6 +71,7 @@ impl Trace {
             ("same promise", self.steps.iter().any(has_promised)),
         ];
         names.extend(self.of_copies(&known, &copies));
+        names.extend(self.of_restored(&known));
         names.extend(self.of_fates(recovery));
         names.into_iter().filter(|(_, met)| *met).map(|(name, _)| name).collect()
     }
@@ -80,21 +81,56 @@ impl Trace {
         known: &[(u64, u64)],
         copies: &[(u64, u64, Option<u64>)],
     ) -> [(&'static str, bool); 6] {
-        let highest = known.iter().map(|(_, mark)| *mark).max().unwrap_or(0);
-        let at_highest = || known.iter().filter(|(_, mark)| *mark == highest).map(|(it, _)| *it);
+        let others: Vec<_> = known.iter().filter(|(it, _)| !self.is_restored(*it)).collect();
+        let highest = others.iter().map(|(_, mark)| *mark).max().unwrap_or(0);
+        let at_highest = || others.iter().filter(|(_, mark)| *mark == highest).map(|(it, _)| *it);
         let replicas = self.after.shape.replicas as usize;
-        let majority = highest_reached(quorum(replicas), known.iter().map(|(_, mark)| *mark));
+        let majority = highest_reached(quorum(replicas), others.iter().map(|(_, mark)| *mark));
         let any = |such: &dyn Fn(u64, u64, u64) -> bool| {
             copies.iter().any(|&(from, mark, after)| after.is_some_and(|it| such(from, mark, it)))
         };
         [
             // The source is not the first that is known, or not the lowest number of those that have the mark.
-            ("not first", any(&|from, _, _| known[0].0 != from)),
+            ("not first", any(&|from, _, _| others[0].0 != from)),
             ("not lowest", any(&|from, _, _| at_highest().min() != Some(from))),
             ("above majority", any(&|_, _, after| majority.is_some_and(|mark| after > mark))),
             ("jump", any(&|_, mark, after| after > mark + 1)),
             ("past highest", any(&|_, _, after| after > highest)),
             ("source shows", self.steps.iter().any(|step| shows_source(step, at_highest()))),
+        ]
+    }
+
+    /// Whether the register says so, as the recovery finds it.
+    fn is_restored(&self, replica: u64) -> bool {
+        let entries = &self.steps[0].before.records.register.entries;
+        entries[replica as usize].closing == Closing::Restored
+    }
+
+    /// Restored replicas: copied to; known above the highest mark of the others; known at it or above, and
+    /// before their first that has it; known alone; clean at the end, or left restored.
+    fn of_restored(&self, known: &[(u64, u64)]) -> [(&'static str, bool); 6] {
+        let highest = known.iter().filter(|it| !self.is_restored(it.0)).map(|it| it.1).max();
+        let restored = || known.iter().filter(|it| self.is_restored(it.0));
+        let source = known.iter().find(|it| !self.is_restored(it.0) && Some(it.1) == highest);
+        let before = known.iter().take_while(|it| Some(*it) != source);
+        let mut passed = before.filter(|it| self.is_restored(it.0) && Some(it.1) >= highest);
+        let copied = |step: &Step| match (&step.call, step.reply) {
+            (Call::Copy { to, .. }, Ok(Answer::Number(_))) => self.is_restored(*to),
+            _ => false,
+        };
+        let entries = &self.after.records.register.entries;
+        let opened = matches!(self.end.0, Ok(Answer::Number(_)));
+        let after = |such: Closing| {
+            let is = |replica: u64| entries[replica as usize].closing == such;
+            opened && (0..self.after.shape.replicas).any(|it| self.is_restored(it) && is(it))
+        };
+        [
+            ("to restored", self.steps.iter().any(copied)),
+            ("restored higher", highest.is_some() && restored().any(|it| Some(it.1) > highest)),
+            ("restored passed", highest.is_some() && passed.next().is_some()),
+            ("only restored", highest.is_none() && restored().next().is_some()),
+            ("restored clean", after(Closing::Unresolved)),
+            ("restored left", after(Closing::Restored)),
         ]
     }
 

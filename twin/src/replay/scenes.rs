@@ -5,7 +5,7 @@ use std::ops::RangeInclusive;
 
 use super::recorder::Recorder;
 use super::{export_scenes, header_zero, limits, locks, sequences};
-use crate::cluster::{Call, Entry, Message, Standing};
+use crate::cluster::{Call, Closing, Entry, Message, Standing};
 use crate::fate::{Fate, Left};
 use crate::medium::{
     self, place_at, seal, DATA_AT, LENGTH_AT, PLACE_BYTES, SLOT_BYTES, SLOT_ZEROS_AT,
@@ -59,7 +59,7 @@ fn particular(recorder: &mut Recorder, random: &mut Random, scene: &Scene) {
 }
 
 /// The call where it is not declined, under every fate.
-fn under_every_fate(recorder: &mut Recorder, scene: &Scene) {
+pub fn under_every_fate(recorder: &mut Recorder, scene: &Scene) {
     for fate in fates_of(scene.kind) {
         let mut scene = scene.clone();
         scene.set_message(Message { fate, given: [0x5A; PLACE_BYTES] });
@@ -79,10 +79,16 @@ fn with_the_least_interval(recorder: &mut Recorder, scene: &Scene) {
     try_scene(recorder, scene);
 }
 
-/// The fates that a call can have: the register is never cut, and three calls send no message.
+/// Calls that send no message.
+fn is_local(kind: Kind) -> bool {
+    let issues = [Kind::GateIssue, Kind::BookingIssue];
+    issues.contains(&kind) || [Kind::Stop, Kind::Reassign, Kind::Restore].contains(&kind)
+}
+
+/// The fates that a call can have: the register is never cut.
 fn fates_of(kind: Kind) -> Vec<Fate> {
     let mut fates = vec![Fate::Answered];
-    if !matches!(kind, Kind::GateIssue | Kind::BookingIssue | Kind::Stop | Kind::Reassign) {
+    if !is_local(kind) {
         fates.extend([Fate::Lost, Fate::AnswerLost]);
         if !matches!(kind, Kind::Take | Kind::Open) {
             fates.extend(cuts(1..=3));
@@ -107,7 +113,7 @@ fn with_each_fault(recorder: &mut Recorder, scene: &Scene) {
     for fault in faults_of(scene) {
         let mut scene = with_faults(scene, &[&fault]);
         try_scene(recorder, scene.clone());
-        if (fault.by_receiver() || fault.number() == 17) && scene.kind != Kind::Reassign {
+        if (fault.by_receiver() || fault.number() == 17) && !is_local(scene.kind) {
             scene.set_message(Message::new(Fate::AnswerLost));
             try_scene(recorder, scene);
         }
@@ -146,7 +152,7 @@ fn truncation(recorder: &mut Recorder, scene: &Scene, message: Message) {
         // The promise is written first, then places 4 to 1 are wiped.
         set_promise(scene.medium(), SESSION - 1);
         let entries = &mut scene.cluster.records.servers[SERVER].entries;
-        entries[REPLICA] = Entry { session: 3, closing: Some(0) };
+        entries[REPLICA] = Entry { session: 3, closing: Closing::Mark(0) };
     }
     scene.set_message(message);
     try_scene(recorder, scene);

@@ -56,18 +56,35 @@ fn entry_lines(word: &str, server: &[u64], old: &[Entry], new: &[Entry]) -> Vec<
     entries.map(|(replica, (_, entry))| line(word, &fields(replica, entry))).collect()
 }
 
-/// A line for each piece of 72 bytes that has a difference, from its first to its last one.
+/// A line for each piece that differs.
 pub fn media_lines(old: &[u8], new: &[u8]) -> Vec<String> {
-    let mut lines = Vec::new();
+    let lines = differences(old, new).into_iter();
+    lines.map(|(at, bytes)| format!("media\t{at}\t{}", hex::encode(bytes))).collect()
+}
+
+/// A line for each piece of a backup that differs; one without bytes if only its length does.
+pub fn backup_lines(old: &[u8], old_length: usize, new: &[u8]) -> Vec<String> {
+    let length = new.len();
+    let mut pieces = differences(old, new);
+    if pieces.is_empty() && length != old_length {
+        pieces.push((0, &[]));
+    }
+    let lines = pieces.into_iter();
+    lines.map(|(at, bytes)| format!("backup\t{length}\t{at}\t{}", hex::encode(bytes))).collect()
+}
+
+/// Of each 72 bytes in which there is a difference, those from the first to the last one, and where they lie.
+fn differences<'a>(old: &[u8], new: &'a [u8]) -> Vec<(usize, &'a [u8])> {
+    let mut pieces = Vec::new();
     for start in (0..new.len()).step_by(PLACE_BYTES) {
         let end = new.len().min(start + PLACE_BYTES);
         let differs = |at: &usize| old[*at] != new[*at];
         if let (Some(first), Some(last)) = ((start..end).find(differs), (start..end).rfind(differs))
         {
-            lines.push(format!("media\t{first}\t{}", hex::encode(&new[first..=last])));
+            pieces.push((first, &new[first..=last]));
         }
     }
-    lines
+    pieces
 }
 
 /// A line for each run of equal marks that has a difference.

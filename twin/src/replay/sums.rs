@@ -1,6 +1,6 @@
 //! Check sums of all state, and of an export's files.
 
-use crate::cluster::{Call, Cluster, Entry, Phase, Records, Server, Standing};
+use crate::cluster::{Call, Closing, Cluster, Entry, Phase, Records, Server, Standing};
 use crate::crc::crc32;
 
 /// Of the records, the media and the lock tables.
@@ -43,9 +43,14 @@ fn put(bytes: &mut Vec<u8>, numbers: &[u64]) {
     bytes.extend(numbers.iter().flat_map(|number| number.to_be_bytes()));
 }
 
-/// Session; 0 if unresolved, else 1; closing mark.
+/// Session; 0 unresolved, 1 closing mark, 2 restored; the closing mark or 0.
 pub fn entry_numbers(entry: &Entry) -> [u64; 3] {
-    [entry.session, u64::from(entry.closing.is_some()), entry.closing.unwrap_or(0)]
+    let [kind, mark] = match entry.closing {
+        Closing::Unresolved => [0, 0],
+        Closing::Mark(mark) => [1, mark],
+        Closing::Restored => [2, 0],
+    };
+    [entry.session, kind, mark]
 }
 
 /// Phase, session, generation, starting, issued and acknowledged mark.

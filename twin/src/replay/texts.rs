@@ -29,6 +29,7 @@ pub fn call_line(call: &Call) -> String {
         }
         Call::Issue { server, request } => request_numbers(*server, request),
         Call::Stop { server } => vec![*server],
+        Call::Restore { replica, .. } => vec![*replica],
         Call::Reassign => Vec::new(),
     };
     let line = line(word(call), &numbers);
@@ -67,6 +68,7 @@ pub fn word(call: &Call) -> &'static str {
         Call::Export { .. } => "export",
         Call::Stop { .. } => "stop",
         Call::Reassign => "reassign",
+        Call::Restore { .. } => "restore",
     }
 }
 

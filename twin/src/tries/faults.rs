@@ -1,15 +1,21 @@
 //! Faults, each with the number that it makes a call decline with.
 
-use crate::cluster::{first_row, Message, Phase, Standing, BY_RECEIVER, FILES_ROW, ORDER};
+use crate::cluster::{first_row, Closing, Message, Phase, Standing, BY_RECEIVER, FILES_ROW, ORDER};
 use crate::fate::{Fate, Left};
 use crate::locks::lock_places;
-use crate::medium::{mark, place_at, put, PLACE_BYTES, SLOTS_BYTES, WIPED};
+use crate::medium::{
+    mark, medium_bytes, place_at, put, seal, PLACE_BYTES, SLOTS_BYTES, SLOT_BYTES, SLOT_ZEROS_AT,
+    WIPED,
+};
 
 use super::scene::Kind::{self, *};
 use super::scene::{
     exact_of, record_bytes, set_place, set_promise, set_tables, Scene, CLIENT_MARK, EXACT, PLACES,
     REPLICA, SERVER, SESSION, SOURCE,
 };
+
+/// The bytes of a medium, and so of a backup.
+const BACKUP: usize = medium_bytes(PLACES as usize);
 
 pub struct Fault {
     /// The row of the list.
@@ -46,6 +52,7 @@ const EVERY: &[Kind] = &[
     Export,
     Stop,
     Reassign,
+    Restore,
 ];
 const BY_SERVER: &[Kind] = &[
     Take,
@@ -76,13 +83,14 @@ const BUSY: &[Kind] = &[
     Export,
 ];
 const TO_REPLICA: &[Kind] = &[Prepare, OpeningCopy, OpenCopy, Trim, Send, Note, Read, Export];
+const NAMING: &[Kind] = &[Prepare, OpeningCopy, OpenCopy, Trim, Send, Note, Read, Export, Restore];
 const AGREEING: &[Kind] = &[OpeningCopy, OpenCopy, Trim, Send, Note, Read, Export];
 const COPIES: &[Kind] = &[OpeningCopy, OpenCopy];
 const ISSUES: &[Kind] = &[GateIssue, BookingIssue];
 
 fn all_faults() -> Vec<Fault> {
     let before = [shape(), marks(), names(), phases(), fates(), votes(), requests(), work()];
-    before.into_iter().chain([receivers(), files()]).flatten().collect()
+    before.into_iter().chain([receivers(), files(), backups()]).flatten().collect()
 }
 
 /// The faults that a scene can meet.
@@ -127,10 +135,10 @@ fn shape() -> Vec<Fault> {
 fn marks() -> Vec<Fault> {
     vec![
         fault(2, "closing mark of the register", EVERY, |scene| {
-            scene.cluster.records.register.entries[2].closing = Some(PLACES + 1)
+            scene.cluster.records.register.entries[2].closing = Closing::Mark(PLACES + 1)
         }),
         fault(2, "closing mark handed over", EVERY, |scene| {
-            scene.cluster.records.servers[3].entries[0].closing = Some(u64::MAX)
+            scene.cluster.records.servers[3].entries[0].closing = Closing::Mark(u64::MAX)
         }),
         fault(2, "starting mark", EVERY, |scene| {
             scene.cluster.records.servers[0].starting = PLACES + 1
@@ -149,8 +157,8 @@ fn names() -> Vec<Fault> {
     vec![
         fault(3, "server 4", BY_SERVER, |scene| scene.set_server(4)),
         fault(3, "server at the top", BY_SERVER, |scene| scene.set_server(u64::MAX)),
-        fault(4, "replica R", TO_REPLICA, |scene| scene.set_replica(3)),
-        fault(4, "replica at the top", TO_REPLICA, |scene| scene.set_replica(u64::MAX)),
+        fault(4, "replica R", NAMING, |scene| scene.set_replica(3)),
+        fault(4, "replica at the top", NAMING, |scene| scene.set_replica(u64::MAX)),
         fault(4, "copy from replica R", COPIES, |scene| scene.set_source(3)),
         fault(4, "copy names one twice", COPIES, |scene| scene.set_source(REPLICA as u64)),
     ]
@@ -308,7 +316,7 @@ fn receivers() -> Vec<Fault> {
             set_place(scene.medium(), above)
         }),
         fault(20, "lower mark", AGREEING, |scene| put(scene.medium(), place_at(1), &WIPED)),
-        fault(21, "session at its top", &[Take], |scene| {
+        fault(21, "session at its top", &[Take, Restore], |scene| {
             scene.cluster.records.register.session = u64::MAX
         }),
         fault(21, "generation at its top", &[Reassign], |scene| {
@@ -345,6 +353,36 @@ fn files() -> Vec<Fault> {
 
 fn other_files(name: &'static str, make: fn(&mut Scene)) -> Fault {
     Fault { row: FILES_ROW, name, calls: &[Export], make }
+}
+
+/// Bytes of a restore: of another length, or without a valid slot.
+fn backups() -> Vec<Fault> {
+    const RESTORE: &[Kind] = &[Restore];
+    vec![
+        fault(1, "no backup", RESTORE, |scene| scene.backup().clear()),
+        fault(1, "backup one byte short", RESTORE, |scene| scene.backup().truncate(BACKUP - 1)),
+        fault(1, "backup one byte long", RESTORE, |scene| scene.backup().resize(BACKUP + 1, 0)),
+        fault(1, "backup of one place less", RESTORE, |scene| {
+            scene.backup().truncate(BACKUP - PLACE_BYTES)
+        }),
+        fault(1, "backup of one place more", RESTORE, |scene| {
+            scene.backup().resize(BACKUP + PLACE_BYTES, 0)
+        }),
+        fault(1, "backup of the old layout", RESTORE, |scene| {
+            scene.backup().truncate(64 + 64 * PLACES as usize)
+        }),
+        fault(30, "backup without slots", RESTORE, |scene| damage_slots(scene.backup())),
+        fault(30, "backup whose checks fail", RESTORE, |scene| {
+            [0, SLOT_BYTES].into_iter().for_each(|at| scene.backup()[at + 3] ^= 1)
+        }),
+        fault(30, "backup whose zeros are not zero", RESTORE, |scene| {
+            for at in [0, SLOT_BYTES] {
+                let slot = &mut scene.backup()[at..at + SLOT_BYTES];
+                slot[SLOT_ZEROS_AT] = 1;
+                seal(slot);
+            }
+        }),
+    ]
 }
 
 fn damage_slots(medium: &mut [u8]) {

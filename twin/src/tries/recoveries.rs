@@ -1,7 +1,7 @@
 //! Recoveries (document 02, No. 9): what one is asked for, the calls that it makes, and draws.
 
 use super::caller::Caller;
-use crate::cluster::{Answer, Call, Cluster, Message, Phase, Reply, SERVERS};
+use crate::cluster::{Answer, Call, Closing, Cluster, Message, Phase, Register, Reply, SERVERS};
 use crate::fate::{Fate, Left};
 use crate::medium::{put, PlaceBytes, PLACE_BYTES, WIPED};
 use crate::random::Random;
@@ -62,8 +62,13 @@ impl Recovery {
     }
 
     /// The recovery once more, for one that the driver does not decline itself: each call by hand, and what
-    /// comes next by the replies alone. `make` makes a call. The last reply, and how many calls were made.
-    pub fn by_hand(&self, mut make: impl FnMut(Call) -> Reply) -> (Reply, u64) {
+    /// comes next by the replies and by which entries of the register, as it is before, are restored. `make`
+    /// makes a call. The last reply, and how many calls were made.
+    pub fn by_hand(
+        &self,
+        register: &Register,
+        mut make: impl FnMut(Call) -> Reply,
+    ) -> (Reply, u64) {
         let (server, mut messages, mut count) = (self.server, self.messages(), 0);
         let mut next = |call: &dyn Fn(Message) -> Call| {
             count += 1;
@@ -80,8 +85,11 @@ impl Recovery {
                 known.push((replica, mark));
             }
         }
-        let highest = known.iter().map(|(_, mark)| *mark).max().unwrap_or(0);
-        let first = known.iter().find(|(_, mark)| *mark == highest);
+        let restored =
+            |replica: u64| register.entries[replica as usize].closing == Closing::Restored;
+        let others = || known.iter().filter(|(replica, _)| !restored(*replica));
+        let highest = others().map(|(_, mark)| *mark).max().unwrap_or(0);
+        let first = others().find(|(_, mark)| *mark == highest);
         let from = first.map_or(0, |(replica, _)| *replica);
         for (to, mut mark) in known {
             while mark < highest {

@@ -2,7 +2,7 @@
 
 use super::recoveries::Recovery;
 use super::recovery_rows::{cluster, SHAPE};
-use crate::cluster::{Cluster, Phase};
+use crate::cluster::{Closing, Cluster, Phase};
 use crate::fate::Fate;
 use crate::medium::PLACE_BYTES;
 
@@ -79,10 +79,10 @@ fn lengths() -> Vec<Fault> {
 fn marks() -> Vec<Fault> {
     vec![
         fault(2, "closing mark of the register", |it| {
-            it.cluster.records.register.entries[2].closing = Some(SHAPE.places + 1)
+            it.cluster.records.register.entries[2].closing = Closing::Mark(SHAPE.places + 1)
         }),
         fault(2, "closing mark handed over", |it| {
-            it.cluster.records.servers[3].entries[0].closing = Some(u64::MAX)
+            it.cluster.records.servers[3].entries[0].closing = Closing::Mark(u64::MAX)
         }),
         fault(2, "starting mark", |it| it.cluster.records.servers[2].starting = u64::MAX),
         fault(2, "issued", |it| it.cluster.records.servers[1].issued = SHAPE.places + 1),

@@ -84,7 +84,7 @@ fn numeral(field: &str) -> Option<u64> {
 }
 
 /// A code, or `c`, the write and what is left.
-fn fate(field: &str) -> Option<Fate> {
+pub fn fate(field: &str) -> Option<Fate> {
     let Some(cut) = field.strip_prefix("c ") else {
         return numeral(field).map(Fate::of_code);
     };

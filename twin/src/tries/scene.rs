@@ -2,7 +2,7 @@
 
 use crate::cluster::{Call, Cluster, Message, Phase, Reply, Request, Shape, Standing, HELD};
 use crate::fate::Fate;
-use crate::medium::{place_at, put, PlaceBytes, Record, Slot, PLACE_BYTES, SLOT_BYTES};
+use crate::medium::{self, place_at, put, PlaceBytes, Record, Slot, PLACE_BYTES, SLOT_BYTES};
 use crate::segment::{Pair, Stamp, FRAME_BYTES, HEADER_BYTES, OFFSET_BYTES};
 
 pub const PLACES: u64 = 13;
@@ -57,6 +57,7 @@ pub enum Kind {
     Export,
     Stop,
     Reassign,
+    Restore,
 }
 
 /// A state and a call on it.
@@ -82,7 +83,7 @@ impl Scene {
 
     pub fn set_server(&mut self, number: u64) {
         match &mut self.call {
-            Call::Reassign => {}
+            Call::Reassign | Call::Restore { .. } => {}
             Call::Take { server, .. }
             | Call::Prepare { server, .. }
             | Call::Copy { server, .. }
@@ -105,7 +106,8 @@ impl Scene {
             | Call::Send { replica, .. }
             | Call::Note { replica, .. }
             | Call::Read { replica, .. }
-            | Call::Export { replica, .. } => *replica = number,
+            | Call::Export { replica, .. }
+            | Call::Restore { replica, .. } => *replica = number,
             _ => {}
         }
     }
@@ -140,6 +142,14 @@ impl Scene {
     pub fn lend(&mut self, lengths: [usize; 2]) {
         if let Call::Export { files, .. } = &mut self.call {
             *files = Pair::filled(lengths, UNWRITTEN);
+        }
+    }
+
+    /// The bytes of a restore.
+    pub fn backup(&mut self) -> &mut Vec<u8> {
+        match &mut self.call {
+            Call::Restore { backup, .. } => backup,
+            _ => panic!("only restore has a backup"),
         }
     }
 
@@ -238,7 +248,16 @@ fn request(client: u32, data: usize, locks: u64) -> Request {
     }
 }
 
-pub fn all_scenes() -> [Scene; 14] {
+/// What the replica held in an earlier session: its slots differ, one mark from the other.
+pub fn backup() -> Vec<u8> {
+    let mut medium = medium::fresh(PLACES as usize);
+    put(&mut medium, 0, &Slot { promise: 2, low: 1, local: 2 }.encode());
+    put(&mut medium, SLOT_BYTES, &Slot { promise: 3, low: 1, local: 2 }.encode());
+    (1..=3).for_each(|id| set_place(&mut medium, id));
+    medium
+}
+
+pub fn all_scenes() -> [Scene; 15] {
     let (server, replica, from) = (SERVER as u64, REPLICA as u64, SOURCE as u64);
     let fate = Fate::Answered;
     let message = Message::new(fate);
@@ -265,6 +284,7 @@ pub fn all_scenes() -> [Scene; 14] {
         (Kind::Export, calm(), Call::Export { server, replica, stamp, files, message }),
         (Kind::Stop, calm(), Call::Stop { server }),
         (Kind::Reassign, idle(), Call::Reassign),
+        (Kind::Restore, calm(), Call::Restore { replica, backup: backup() }),
     ]
     .map(|(kind, cluster, call)| Scene { kind, cluster, call })
 }

@@ -6,9 +6,10 @@ use super::headers::draw_header;
 use super::limits::{draw_client, draw_count, draw_data};
 use super::records::draw_sequence;
 use super::recoveries::{draw_idle, draw_listed, of_messages, Recovery};
+use super::restores::draw_backup;
 use super::scene::record_bytes;
 use crate::cluster::{
-    Call, Cluster, Entry, Message, Phase, Request, Server, Shape, Standing, HELD, SERVERS,
+    Call, Closing, Cluster, Entry, Message, Phase, Request, Server, Shape, Standing, HELD, SERVERS,
 };
 use crate::fate::{Fate, Left};
 use crate::locks::{lock_places, TABLE_MARKS};
@@ -63,7 +64,8 @@ impl Draw<'_> {
     fn medium(&mut self) -> Vec<u8> {
         let mut medium = vec![0; medium_bytes(self.places as usize)];
         for index in 0..2 {
-            let slot = Slot { promise: self.session(), low: self.random.below(3), local: 0 };
+            let local = self.random.below(3);
+            let slot = Slot { promise: self.session(), low: self.low(), local };
             put(&mut medium, index * SLOT_BYTES, &slot.encode());
             if self.random.chance(8) {
                 medium[index * SLOT_BYTES] ^= 1;
@@ -117,13 +119,23 @@ impl Draw<'_> {
     }
 
     fn entry(&mut self) -> Entry {
-        let closing = self.random.chance(2).then(|| self.mark());
+        let closing = match self.random.below(8) {
+            0..=2 => Closing::Mark(self.mark()),
+            3 => Closing::Restored,
+            _ => Closing::Unresolved,
+        };
         Entry { session: self.session(), closing }
     }
 
     /// Few values, so that sessions and promises often agree.
     fn session(&mut self) -> u64 {
         *self.random.pick(&[1, 1, 1, 1, 2, u64::MAX])
+    }
+
+    /// Mostly a low-water mark that a log may have, now and then one far above.
+    fn low(&mut self) -> u64 {
+        let near = self.random.below(3);
+        *self.random.pick(&[near, near, near, near, near, self.places, u64::MAX])
     }
 
     fn mark(&mut self) -> u64 {
@@ -147,7 +159,7 @@ impl Draw<'_> {
         let from = self.random.below(cluster.shape.replicas + 1);
         let message = self.message();
         let fate = message.fate;
-        match self.random.below(12) {
+        match self.random.below(13) {
             0 => Call::Take { server, fate },
             1 => Call::Prepare { server, replica, message },
             2 => Call::Copy { server, from, to: replica, message },
@@ -159,7 +171,8 @@ impl Draw<'_> {
             8 => Call::Read { server, replica, id: self.mark(), message },
             9 => draw_export(self.random, cluster, server, replica, message),
             10 => Call::Stop { server },
-            _ => Call::Reassign,
+            11 => Call::Reassign,
+            _ => Call::Restore { replica, backup: draw_backup(self.random, cluster) },
         }
     }
 

@@ -66,9 +66,17 @@ impl Useful<'_> {
         self.replicas(|standing, mark| standing == Standing::In && such(mark))
     }
 
+    /// Those that may be copied from: an opening server takes nothing from restored ones.
+    fn sources(&self, such: impl Fn(u64) -> bool) -> Vec<u64> {
+        let opening = self.record.phase == Phase::Opening;
+        let barred = |replica: u64| opening && self.record.is_restored(replica as usize);
+        self.used(such).into_iter().filter(|&replica| !barred(replica)).collect()
+    }
+
     /// The highest of their marks.
     fn highest(&self) -> u64 {
-        self.used(|_| true).into_iter().map(|i| self.record.marks[i as usize]).max().unwrap_or(0)
+        let marks = self.sources(|_| true).into_iter().map(|i| self.record.marks[i as usize]);
+        marks.max().unwrap_or(0)
     }
 
     /// Servers whose session is over end sooner or later, also those of a full log and those that
@@ -87,7 +95,7 @@ impl Useful<'_> {
     fn opening_call(&self, random: &mut Random) -> Call {
         let absent = self.replicas(|standing, _| standing != Standing::In);
         let quorum = votes::quorum(self.cluster.shape.replicas as usize);
-        let enough = self.used(|_| true).len() >= quorum;
+        let enough = self.sources(|_| true).len() >= quorum;
         if !absent.is_empty() && (!enough || random.chance(2)) {
             return self.prepare(random, &absent);
         }
@@ -111,9 +119,7 @@ impl Useful<'_> {
 
     fn known_marks(&self) -> Vec<Option<u64>> {
         let replicas = 0..self.cluster.shape.replicas as usize;
-        let mark =
-            |i: usize| (self.record.standings[i] == Standing::In).then_some(self.record.marks[i]);
-        replicas.map(mark).collect()
+        replicas.map(|replica| self.record.vote(replica)).collect()
     }
 
     /// Records are issued while others are in flight. A member that may be sent the next one gets it;
@@ -187,7 +193,7 @@ impl Useful<'_> {
     /// replica is prepared, or the server gives up.
     fn copy_up(&self, random: &mut Random, mark: u64, absent: &[u64]) -> Call {
         let server = self.server;
-        let (from, to) = (self.used(|other| other >= mark), self.used(|other| other < mark));
+        let (from, to) = (self.sources(|other| other >= mark), self.used(|other| other < mark));
         if from.is_empty() || to.is_empty() {
             return match absent {
                 [] => Call::Stop { server },

@@ -7,7 +7,7 @@ use crate::crc::crc32;
 use crate::fate::perform;
 use crate::hex;
 use crate::medium::{self, Record, Slot, DATA_LIMIT};
-use crate::replica::{Found, Operation};
+use crate::replica::{Closing, Found, Operation};
 use crate::segment::{self, Pair};
 
 /// The longest line that may fit a form, without its newline.
@@ -126,7 +126,7 @@ fn operation(command: &str, fields: &mut Fields) -> Option<String> {
     let operation = match command {
         "prepare" => Operation::Prepare {
             session: fields.number()?,
-            closing: fields.number()?.checked_sub(1),
+            closing: fields.number()?.checked_sub(1).map_or(Closing::Unresolved, Closing::Mark),
         },
         "append" => Operation::Append(fields.place()?),
         "truncate" => Operation::Truncate(fields.number()?),

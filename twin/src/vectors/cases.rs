@@ -10,7 +10,7 @@ use crate::medium::{
     PLACE_CHECK_AT, SLOT_BYTES, SLOT_CHECK_AT, SLOT_ZEROS_AT, WIPED,
 };
 use crate::random::Random;
-use crate::replica::{Found, Operation};
+use crate::replica::{Closing, Found, Operation};
 use crate::tries::imports::plain;
 use crate::tries::records::{draw_record, TOPS};
 
@@ -286,6 +286,7 @@ impl Cases {
             (5, Some(0), ordered, ".vv"),
         ];
         for (session, closing, slots, log) in cases {
+            let closing = closing.map_or(Closing::Unresolved, Closing::Mark);
             self.operation(Operation::Prepare { session, closing }, slots, log);
         }
     }
@@ -402,7 +403,7 @@ impl Cases {
 fn operation_text(operation: Operation, places: usize) -> String {
     match operation {
         Operation::Prepare { session, closing } => {
-            let closing = closing.map_or(0, |mark| mark + 1);
+            let closing = closing.mark().map_or(0, |mark| mark + 1);
             format!("prepare\t{places}\t{session}\t{closing}")
         }
         Operation::Append(bytes) => format!("append\t{places}\t{}", hex::encode(&bytes)),

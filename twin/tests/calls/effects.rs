@@ -1,7 +1,8 @@
 //! What calls do, at the points where handed-in states tell readings of document 01 apart.
 
 use twin::cluster::{
-    Answer, Cluster, Entry, Message, Phase, Refusal, Register, Request, Server, Standing, HELD,
+    Answer, Closing, Cluster, Entry, Message, Phase, Refusal, Register, Request, Server, Standing,
+    HELD,
 };
 use twin::fate::{Fate, Left};
 use twin::locks::{lock_places, TABLE_MARKS};
@@ -36,8 +37,8 @@ fn take_starts_from_a_zero_record() {
     let mut cluster = cluster_for(Kind::Take);
     let register = &mut cluster.records.register;
     (register.session, register.generation) = (8, 3);
-    register.entries[1] = Entry { session: 7, closing: Some(4) };
-    register.entries[6] = Entry { session: 9, closing: Some(u64::MAX) };
+    register.entries[1] = Entry { session: 7, closing: Closing::Mark(4) };
+    register.entries[6] = Entry { session: 9, closing: Closing::Mark(u64::MAX) };
     let register = *register;
     (record(&mut cluster).starting, record(&mut cluster).marks[6]) = (4, 77);
     record(&mut cluster).held = held_up_to(12);
@@ -67,8 +68,8 @@ fn take_without_answer_leaves_the_server_idle() {
 #[test]
 fn prepare_goes_by_the_entry_handed_over() {
     let mut cluster = cluster_for(Kind::Prepare);
-    cluster.records.register.entries[REPLICA].closing = Some(1);
-    record(&mut cluster).entries[REPLICA].closing = Some(2);
+    cluster.records.register.entries[REPLICA].closing = Closing::Mark(1);
+    record(&mut cluster).entries[REPLICA].closing = Closing::Mark(2);
     record(&mut cluster).standings[REPLICA] = Standing::Out;
     // The promise stands already; the truncation follows all the same.
     assert_eq!(cluster.prepare(SERVER_NUMBER, REPLICA as u64, &answered()), Ok(Answer::Number(2)));
@@ -83,7 +84,7 @@ fn prepare_numbers_the_writes_that_it_makes() {
     for (promise, mark_left) in [(SESSION, 3), (SESSION - 1, 4)] {
         let mut cluster = cluster_for(Kind::Prepare);
         set_promise(cluster.medium_mut(REPLICA), promise);
-        record(&mut cluster).entries[REPLICA].closing = Some(0);
+        record(&mut cluster).entries[REPLICA].closing = Closing::Mark(0);
         let message = cut(1, Left::New);
         assert_eq!(cluster.prepare(SERVER_NUMBER, REPLICA as u64, &message), Ok(Answer::Silent));
         let medium = cluster.medium(REPLICA);
@@ -100,7 +101,7 @@ fn truncation_starts_at_the_end_of_the_run() {
     let medium = cluster.medium_mut(REPLICA);
     put(medium, place_at(3), &WIPED);
     let behind = place(medium, 4);
-    record(&mut cluster).entries[REPLICA].closing = Some(1);
+    record(&mut cluster).entries[REPLICA].closing = Closing::Mark(1);
     assert_eq!(cluster.prepare(SERVER_NUMBER, REPLICA as u64, &answered()), Ok(Answer::Number(1)));
     assert_eq!(place(cluster.medium(REPLICA), 2), WIPED);
     assert_eq!(place(cluster.medium(REPLICA), 4), behind);
@@ -206,12 +207,12 @@ fn fewer_members_than_a_quorum_acknowledge_nothing() {
 fn about_to_open() -> Cluster {
     let mut cluster = cluster_for(Kind::Open);
     let entries = &mut cluster.records.register.entries;
-    entries[0] = Entry { session: 3, closing: Some(2) };
-    entries[1] = Entry { session: 2, closing: None };
-    entries[2] = Entry { session: 4, closing: None };
-    entries[5] = Entry { session: 1, closing: None };
+    entries[0] = Entry { session: 3, closing: Closing::Mark(2) };
+    entries[1] = Entry { session: 2, closing: Closing::Unresolved };
+    entries[2] = Entry { session: 4, closing: Closing::Unresolved };
+    entries[5] = Entry { session: 1, closing: Closing::Unresolved };
     let server = record(&mut cluster);
-    server.entries[4] = Entry { session: 6, closing: Some(1) };
+    server.entries[4] = Entry { session: 6, closing: Closing::Mark(1) };
     server.standings[6] = Standing::In;
     server.marks[6] = 4;
     server.held = std::array::from_fn(|index| [9 + index as u8; PLACE_BYTES]);
@@ -225,9 +226,9 @@ fn open_sets_register_record_and_lock_table() {
     let before = cluster.clone();
     assert_eq!(cluster.open(SERVER_NUMBER, Fate::Answered), Ok(Answer::Number(4)));
     let mut register = before.records.register;
-    register.entries[0] = Entry { session: SESSION, closing: None };
-    register.entries[1] = Entry { session: SESSION, closing: None };
-    register.entries[2] = Entry { session: 4, closing: Some(4) };
+    register.entries[0] = Entry { session: SESSION, closing: Closing::Unresolved };
+    register.entries[1] = Entry { session: SESSION, closing: Closing::Unresolved };
+    register.entries[2] = Entry { session: 4, closing: Closing::Mark(4) };
     assert_eq!(cluster.records.register, register);
     let mut server = before.records.servers[SERVER];
     server.phase = Phase::Open;
@@ -393,9 +394,9 @@ fn given_bytes_that_may_pass() {
 fn marks_from_r_up_are_not_read() {
     for mut scene in all_scenes() {
         let records = &mut scene.cluster.records;
-        records.register.entries[3].closing = Some(u64::MAX);
+        records.register.entries[3].closing = Closing::Mark(u64::MAX);
         records.servers[SERVER].marks[4] = u64::MAX;
-        records.servers[2].entries[6].closing = Some(u64::MAX);
+        records.servers[2].entries[6].closing = Closing::Mark(u64::MAX);
         scene.cluster.locks[5] = u64::MAX;
         assert!(scene.apply().is_ok(), "{:?}", scene.kind);
     }

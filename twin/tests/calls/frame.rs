@@ -27,6 +27,7 @@ fn parties(call: &Call) -> (Option<u64>, Option<u64>, Option<Fate>) {
         }
         Call::Issue { server, .. } | Call::Stop { server } => (Some(server), None, None),
         Call::Reassign => (None, None, None),
+        Call::Restore { replica, .. } => (None, Some(replica), None),
     }
 }
 
@@ -43,7 +44,10 @@ fn assert_rest_unchanged(before: &Cluster, call: &Call, after: &Cluster) {
     if !matches!(call, Call::Issue { .. } | Call::Open { .. }) {
         assert_eq!(before.locks, after.locks);
     }
-    if !matches!(call, Call::Take { .. } | Call::Open { .. } | Call::Reassign) {
+    if !matches!(
+        call,
+        Call::Take { .. } | Call::Open { .. } | Call::Reassign | Call::Restore { .. }
+    ) {
         assert_eq!(before.records.register, after.records.register);
     }
     let upper = before.shape.replicas as usize..;

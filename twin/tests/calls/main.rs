@@ -12,4 +12,5 @@ mod locks;
 mod recovery;
 mod recovery_promise;
 mod refusals;
+mod restore;
 mod stored_headers;

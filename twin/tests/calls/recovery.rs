@@ -110,7 +110,7 @@ fn words(call: &Call, reply: Reply) -> String {
 /// The recovery's calls by hand, in few words, and what they leave.
 fn trace(before: &Cluster, recovery: &Recovery) -> (Vec<String>, (Reply, u64), Cluster) {
     let (mut after, mut calls) = (before.clone(), Vec::new());
-    let end = recovery.by_hand(|mut call| {
+    let end = recovery.by_hand(&before.records.register, |mut call| {
         let reply = after.apply(&mut call);
         calls.push(words(&call, reply));
         reply

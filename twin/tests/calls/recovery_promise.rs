@@ -1,7 +1,7 @@
 //! "it opens" (document 02, No. 9): on any state that meets the conditions, handed-in ones too; and without one
 //! of them it need not.
 
-use twin::cluster::{Answer, Cluster, Phase, Refusal, Reply, Standing};
+use twin::cluster::{Answer, Closing, Cluster, Phase, Refusal, Reply, Standing};
 use twin::fate::Fate;
 use twin::medium::{current, is_place, mark, place, place_at, put, SLOTS_BYTES, WIPED};
 use twin::random::Random;
@@ -49,37 +49,51 @@ fn draw(random: &mut Random) -> (Cluster, Recovery) {
     }
 }
 
-/// The replicas of the list with a valid slot and a promise not above the new session, each with the mark that
-/// its closing mark leaves it.
-fn able(cluster: &Cluster, recovery: &Recovery) -> Vec<(u64, u64)> {
+/// A replica of the list with a valid slot and a promise not above the new session.
+struct Able {
+    replica: u64,
+    /// The mark that prepare leaves it.
+    kept: u64,
+    restored: bool,
+}
+
+fn able(cluster: &Cluster, recovery: &Recovery) -> Vec<Able> {
     let register = &cluster.records.register;
     let able = recovery.listed.iter().filter_map(|&replica| {
         let medium = cluster.medium(replica as usize);
         let (_, slot) = current(medium)?;
-        let closing = register.entries[replica as usize].closing;
-        let kept = closing.map_or(mark(medium), |closing| closing.min(mark(medium)));
-        (slot.promise <= register.session + 1).then_some((replica, kept))
+        let (kept, restored) = match register.entries[replica as usize].closing {
+            Closing::Unresolved => (mark(medium), false),
+            Closing::Mark(closing) => (closing.min(mark(medium)), false),
+            Closing::Restored => (slot.low.min(mark(medium)), true),
+        };
+        (slot.promise <= register.session + 1).then_some(Able { replica, kept, restored })
     });
     able.collect()
 }
 
+/// Those that are not restored: the driver "takes its highest mark from the others, copies from none such".
+fn others(able: &[Able]) -> impl Iterator<Item = &Able> {
+    able.iter().filter(|it| !it.restored)
+}
+
 /// The session is open at the highest mark with all that are able, which hold what the first of them at that
-/// mark held.
-fn check_opened(before: &Cluster, able: &[(u64, u64)], recovery: &Recovery, after: &Cluster) {
-    let highest = able.iter().map(|(_, mark)| *mark).max().expect("a quorum");
-    let (source, _) = able.iter().find(|(_, mark)| *mark == highest).expect("the highest");
+/// mark held. A restored one above that mark is left there: it is no member.
+fn check_opened(before: &Cluster, able: &[Able], recovery: &Recovery, after: &Cluster) {
+    let highest = others(able).map(|it| it.kept).max().expect("a quorum");
+    let source = others(able).find(|it| it.kept == highest).expect("the highest");
     let record = &after.records.servers[recovery.server as usize];
     assert_eq!((record.phase, record.starting), (Phase::Open, highest));
     assert_eq!(record.session, before.records.register.session + 1);
     for replica in 0..before.shape.replicas {
-        let is_able = able.iter().any(|(other, _)| *other == replica);
+        let is_able = able.iter().any(|it| it.replica == replica && it.kept <= highest);
         assert_eq!(record.standings[replica as usize] == Standing::In, is_able);
     }
-    for &(replica, kept) in able {
+    for &Able { replica, kept, .. } in able {
         let medium = after.medium(replica as usize);
-        assert_eq!(mark(medium), highest);
+        assert_eq!(mark(medium), highest.max(kept));
         for number in 1..=highest {
-            let from = if number <= kept { replica } else { *source };
+            let from = if number <= kept { replica } else { source.replica };
             let bytes = place(before.medium(from as usize), number);
             assert!(place(medium, number) == bytes, "replica {replica}, place {number}");
         }
@@ -87,7 +101,8 @@ fn check_opened(before: &Cluster, able: &[(u64, u64)], recovery: &Recovery, afte
 }
 
 /// "Its count then is 2 + listed replicas + the sum over known ones of what each lacked of the highest mark
-/// after prepare." With fewer than Q that are able it ends with 8.
+/// after prepare." With fewer than Q that are able it ends with 8; restored ones are none of the Q: it "is sure to
+/// open only with Q others".
 #[test]
 fn it_arrives() {
     let mut random = Random::new(99);
@@ -99,10 +114,10 @@ fn it_arrives() {
         let able = able(&before, &recovery);
         let mut after = before.clone();
         let (reply, count) = recovery.apply(&mut after);
-        let highest = able.iter().map(|(_, mark)| *mark).max().unwrap_or(0);
-        let lacked: u64 = able.iter().map(|(_, mark)| highest - mark).sum();
+        let highest = others(&able).map(|it| it.kept).max().unwrap_or(0);
+        let lacked: u64 = able.iter().map(|it| highest.saturating_sub(it.kept)).sum();
         assert_eq!(count, 2 + recovery.listed.len() as u64 + lacked, "{recovery:?}");
-        if able.len() < quorum(before.shape.replicas as usize) {
+        if others(&able).count() < quorum(before.shape.replicas as usize) {
             assert_eq!(reply, Err(Refusal::Undecided));
             few += 1;
             continue;
@@ -159,5 +174,5 @@ fn a_mark_that_jumps_above_the_highest_is_done() {
     let record = &cluster.records.servers[1];
     assert_eq!(record.standings[..3], [Standing::Out, Standing::In, Standing::In]);
     assert_eq!(mark(cluster.medium(0)), 4);
-    assert_eq!(cluster.records.register.entries[0].closing, Some(3));
+    assert_eq!(cluster.records.register.entries[0].closing, Closing::Mark(3));
 }

@@ -113,7 +113,7 @@ fn what_the_receiver_declines_is_seen_only_if_answered() {
         [Fate::Lost, Fate::AnswerLost, Fate::Cut(1, Left::New), Fate::Cut(9, Left::Torn)];
     for scene in all_scenes() {
         let fates = match scene.kind {
-            Kind::Reassign => continue,
+            Kind::Reassign | Kind::Restore => continue,
             Kind::Take | Kind::Open => &replica_fates[..2],
             _ => &replica_fates,
         };

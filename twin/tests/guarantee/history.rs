@@ -30,6 +30,18 @@ pub struct Session {
     pub acknowledged: u64,
 }
 
+/// A replica between two calls.
+pub struct Moment {
+    medium: Vec<u8>,
+    standing: Vec<Option<usize>>,
+}
+
+impl Moment {
+    pub fn medium(&self) -> &[u8] {
+        &self.medium
+    }
+}
+
 pub struct History {
     transactions: Vec<Transaction>,
     /// The transaction that a session's issue answered with this ID.
@@ -41,10 +53,19 @@ pub struct History {
     /// The session of each server's calls: what its last take answered.
     sessions: [u64; SERVERS],
     opened: BTreeMap<u64, Session>,
+    /// What each replica was, from the fresh cluster on; moments at which it is as before are left out.
+    moments: Vec<Vec<Moment>>,
 }
 
 impl History {
-    pub fn new(replicas: usize, places: usize) -> History {
+    /// Of a fresh cluster.
+    pub fn new(cluster: &Cluster) -> History {
+        let [replicas, places] =
+            [cluster.shape.replicas, cluster.shape.places].map(|it| it as usize);
+        let moment = |replica| Moment {
+            medium: cluster.medium(replica).to_vec(),
+            standing: vec![None; places],
+        };
         History {
             transactions: Vec::new(),
             issued: HashMap::new(),
@@ -52,6 +73,30 @@ impl History {
             reached: Vec::new(),
             sessions: [0; SERVERS],
             opened: BTreeMap::new(),
+            moments: (0..replicas).map(|replica| vec![moment(replica)]).collect(),
+        }
+    }
+
+    /// What the replica was at the moments so far.
+    pub fn moments(&self, replica: u64) -> &[Moment] {
+        &self.moments[replica as usize]
+    }
+
+    /// Adds a restore with the replica's bytes of this moment: "each place then holds again the transaction that
+    /// it held at that earlier moment".
+    pub fn restore(&mut self, replica: u64, moment: usize, after: &Cluster) {
+        let replica = replica as usize;
+        self.standing[replica] = self.moments[replica][moment].standing.clone();
+        self.add_moments(after);
+    }
+
+    fn add_moments(&mut self, cluster: &Cluster) {
+        for (replica, moments) in self.moments.iter_mut().enumerate() {
+            let (medium, standing) = (cluster.medium(replica), &self.standing[replica]);
+            let same = |it: &Moment| it.medium == medium && it.standing == *standing;
+            if !moments.last().is_some_and(same) {
+                moments.push(Moment { medium: medium.to_vec(), standing: standing.clone() });
+            }
         }
     }
 
@@ -73,7 +118,7 @@ impl History {
             (Call::Take { server, .. }, Answer::Number(session)) => {
                 self.sessions[*server as usize] = *session;
             }
-            (Call::Open { server, .. }, _) => self.open(*server, before, after),
+            (Call::Open { server, .. }, answer) => self.open(*server, answer, before, after),
             (Call::Issue { server, request }, Answer::Number(id)) => {
                 self.issue(*server, request, *id, after);
             }
@@ -92,6 +137,7 @@ impl History {
             _ => {}
         }
         self.forget_invalid(after);
+        self.add_moments(after);
     }
 
     fn session(&self, server: u64) -> u64 {
@@ -100,12 +146,16 @@ impl History {
 
     /// A session is opened when an open call of it changes the register, even if the answer is
     /// lost.
-    fn open(&mut self, server: u64, before: &Cluster, after: &Cluster) {
+    fn open(&mut self, server: u64, answer: &Answer, before: &Cluster, after: &Cluster) {
         if before.records.register == after.records.register {
             return;
         }
         let session = self.session(server);
-        let Ok(Answer::Number(starting)) = before.clone().open(server, Fate::Answered) else {
+        let answered = match answer {
+            Answer::Silent => before.clone().open(server, Fate::Answered),
+            heard => Ok(*heard),
+        };
+        let Ok(Answer::Number(starting)) = answered else {
             panic!("an open that changes the register is answered with a mark");
         };
         let entries = after.records.register.entries.iter().enumerate();
@@ -181,33 +231,44 @@ impl History {
 
     /// The three conclusions.
     pub fn check(&self) {
-        for (later_number, later) in &self.opened {
-            for (earlier_number, earlier) in self.opened.range(..later_number) {
-                let pair = format!("sessions {earlier_number} and {later_number}");
-                assert!(
-                    earlier.acknowledged <= later.starting,
-                    "{pair}: an acknowledged ID is lost"
-                );
-                self.check_same_bytes(earlier, later, &pair);
-            }
-        }
-        if let Some([earlier, later]) = self.unaware() {
-            panic!("IDs {earlier} and {later} share a lock");
+        if let Some(breach) = self.breach() {
+            panic!("{breach}");
         }
     }
 
+    /// How one of the three conclusions is broken, if any is.
+    pub fn breach(&self) -> Option<String> {
+        for (later_number, later) in &self.opened {
+            for (earlier_number, earlier) in self.opened.range(..later_number) {
+                let breach = match earlier.acknowledged > later.starting {
+                    true => Some("an acknowledged ID is lost".to_string()),
+                    false => self.differing(earlier, later),
+                };
+                if let Some(breach) = breach {
+                    return Some(format!("sessions {earlier_number} and {later_number}: {breach}"));
+                }
+            }
+        }
+        let [earlier, later] = self.unaware()?;
+        Some(format!("IDs {earlier} and {later} share a lock"))
+    }
+
     /// Both hold bytes, and the same bytes, under each ID that both acknowledge.
-    fn check_same_bytes(&self, earlier: &Session, later: &Session, pair: &str) {
+    fn differing(&self, earlier: &Session, later: &Session) -> Option<String> {
         for id in 1..=earlier.acknowledged.min(later.acknowledged) {
             for (first, second) in pairs(&earlier.logs, &later.logs) {
                 let (Some(first), Some(second)) = (first.get(&id), second.get(&id)) else {
-                    panic!("{pair}: no bytes under ID {id}");
+                    return Some(format!("no bytes under ID {id}"));
                 };
-                assert!(first.bytes == second.bytes, "{pair}: other bytes under ID {id}");
-                let issued = self.transactions[first.transaction].bytes;
-                assert!(first.bytes == issued, "{pair}: not the bytes issued under ID {id}");
+                if first.bytes != second.bytes {
+                    return Some(format!("other bytes under ID {id}"));
+                }
+                if first.bytes != self.transactions[first.transaction].bytes {
+                    return Some(format!("not the bytes issued under ID {id}"));
+                }
             }
         }
+        None
     }
 
     /// Two IDs of an opened session's log that break the third conclusion, if there are any.

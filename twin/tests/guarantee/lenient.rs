@@ -30,7 +30,8 @@ impl List {
     /// Three replicas, four places.
     fn new(apply: Apply) -> List {
         let cluster = Cluster::fresh(Shape::whole(3, 4)).expect("an allowed shape");
-        List { apply, cluster, history: History::new(3, 4) }
+        let history = History::new(&cluster);
+        List { apply, cluster, history }
     }
 
     fn call(&mut self, call: Call) -> Result<u64, u64> {

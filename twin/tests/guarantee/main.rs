@@ -1,8 +1,8 @@
 //! The guarantee between sessions, on long random lists of calls from fresh clusters: every fate, a
 //! cut at any write, old servers that go on talking, sessions that the interval ends, servers stopped
 //! or overtaken with records in flight, gates and booking clients, exports; on lists whose media were
-//! converted on the way, and that store what the release before took, header 0 among it; and on lists with
-//! recoveries.
+//! converted on the way, and that store what the release before took, header 0 among it; on lists with
+//! recoveries, and with media from backups.
 
 mod conversions;
 mod exports;
@@ -12,6 +12,7 @@ mod in_flight;
 mod lenient;
 mod limits;
 mod recoveries;
+mod restores;
 
 use std::collections::{BTreeMap, BTreeSet};
 
@@ -146,7 +147,7 @@ impl List {
     fn new(random: &mut Random) -> List {
         let shape = draw_shape(random);
         let cluster = Cluster::fresh(shape).expect("an allowed shape");
-        let history = History::new(shape.replicas as usize, shape.places as usize);
+        let history = History::new(&cluster);
         let caller = Caller::new(random);
         let drawn = random.chance(2);
         List { shape, cluster, history, due: BTreeSet::new(), caller, drawn }
@@ -225,7 +226,8 @@ fn later_sessions_keep_what_earlier_ones_acknowledged() {
     assert!(met.unheld > LISTS);
     met.in_flight.assert_met(LISTS);
     met.clients.assert_met(LISTS);
-    // These cannot be met from a fresh cluster within reach, 1 only for export's files, or by no call: 29.
+    // These cannot be met from a fresh cluster within reach, 1 only for export's files, by no call (29), or only by
+    // restores (30).
     let unmet = (0..ORDER.len()).filter(|row| !met.refusals.contains_key(row));
-    assert_eq!(unmet.map(|row| ORDER[row]).collect::<Vec<_>>(), [1, 2, 29, 18, 20, 21]);
+    assert_eq!(unmet.map(|row| ORDER[row]).collect::<Vec<_>>(), [1, 2, 29, 18, 20, 21, 30]);
 }

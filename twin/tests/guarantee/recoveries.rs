@@ -16,7 +16,7 @@ const LISTS: u64 = 1_500;
 
 /// What the lists met.
 #[derive(Debug, Default)]
-struct Recoveries {
+pub struct Recoveries {
     declined: u64,
     opened: u64,
     /// Those that ended otherwise, and those that left a write cut or an answer unheard on the way.
@@ -30,7 +30,7 @@ struct Recoveries {
 }
 
 impl Recoveries {
-    fn assert_met(&self, lists: u64) {
+    pub fn assert_met(&self, lists: u64) {
         assert!(self.declined > lists / 20, "{self:?}");
         assert!(self.opened > 2 * lists && self.ended > lists / 2, "{self:?}");
         assert!(self.troubled > lists && self.lifted > lists / 20, "{self:?}");
@@ -55,7 +55,8 @@ fn recover(list: &mut List, recovery: &Recovery, met: &mut Met, recoveries: &mut
     let known = acknowledged(&list.history);
     let busy = list.cluster.records.servers.iter().any(|it| it.phase == Phase::Open);
     let mut troubled = false;
-    let end = recovery.by_hand(|call| {
+    let register = list.cluster.records.register;
+    let end = recovery.by_hand(&register, |call| {
         let reply = list.reply_to(call, Cluster::apply, met);
         troubled |= matches!(reply, Ok(Answer::Silent));
         reply
@@ -74,7 +75,7 @@ fn recover(list: &mut List, recovery: &Recovery, met: &mut Met, recoveries: &mut
 }
 
 /// Half of the takes are recoveries'.
-fn next(list: &mut List, random: &mut Random, met: &mut Met, recoveries: &mut Recoveries) {
+pub fn next(list: &mut List, random: &mut Random, met: &mut Met, recoveries: &mut Recoveries) {
     match list.next_call(random) {
         Call::Take { server, .. } if random.chance(2) => {
             let recovery = draw_recovery(random, &list.caller, &list.cluster, server);
@@ -118,7 +119,8 @@ impl Short {
     /// Session 1 has all three as members, and replicas 0 and 1 hold one record, which is acknowledged.
     fn new() -> Short {
         let cluster = Cluster::fresh(Shape::whole(3, 4)).expect("an allowed shape");
-        let mut list = Short { cluster, history: History::new(3, 4) };
+        let history = History::new(&cluster);
+        let mut list = Short { cluster, history };
         let ours: Make = |cluster, mut call| cluster.apply(&mut call);
         assert_eq!(list.recover(&Recovery::new(0, &[0, 1, 2], &[]), ours), "ok 0, 5");
         let request = Request { data: vec![1], ..Request::default() };
@@ -139,7 +141,8 @@ impl Short {
 
     /// The driver's calls, made in this way.
     fn recover(&mut self, recovery: &Recovery, make: Make) -> String {
-        outcome(recovery.by_hand(|call| self.call(call, make)))
+        let register = self.cluster.records.register;
+        outcome(recovery.by_hand(&register, |call| self.call(call, make)))
     }
 }
 

@@ -79,6 +79,12 @@ enum-told c = search needs
 reassign-requires : tie.Need-reassign-requires
 reassign-requires c κs = search needs
 
+enum-known-call-12 : tie.Need-enum-known-call-12
+enum-known-call-12 c = search needs
+
+restore-requires : tie.Need-restore-requires
+restore-requires c κs = search needs
+
 same-length : tie.Need-same-length
 same-length c = search needs
 
@@ -87,8 +93,8 @@ same-length-2 c = search needs
 
 returns : tie.Need-returns
 returns c =
-    let a = c .before .before .before .before .before .before .before .before .before .before .before .before .args in
-    applied (a .content .now) (a .locks .now) (a .given .now) (a .stamp) (a .file .now) (a .index .now) (a .shape) (stateOf (a .records) (a .media .now) (a .tables .now)) _ (a .call) _ (c .before .before .before .before .call .given .1) refl (c .take .ensures)
+    let a = c .before .before .before .before .before .before .before .before .before .before .before .before .before .args in
+    applied (a .content .now) (a .locks .now) (a .given .now) (a .stamp) (a .file .now) (a .index .now) (a .backup .now) (a .shape) (stateOf (a .records) (a .media .now) (a .tables .now)) _ (a .call) _ (c .before .before .before .before .call .given .1) refl (c .take .ensures)
 
 same-length-3 : tie.Need-same-length-3
 same-length-3 c = search needs
@@ -98,8 +104,8 @@ same-length-4 c = search needs
 
 returns-2 : tie.Need-returns-2
 returns-2 c =
-    let a = c .before .before .before .before .before .before .before .before .before .before .before .before .before .before .args in
-    applied (a .content .now) (a .locks .now) (a .given .now) (a .stamp) (a .file .now) (a .index .now) (a .shape) (stateOf (a .records) (a .media .now) (a .tables .now)) _ (a .call) _ (c .before .before .before .before .before .before .call2 .given .1) refl (c .before .before .prepare .ensures)
+    let a = c .before .before .before .before .before .before .before .before .before .before .before .before .before .before .before .args in
+    applied (a .content .now) (a .locks .now) (a .given .now) (a .stamp) (a .file .now) (a .index .now) (a .backup .now) (a .shape) (stateOf (a .records) (a .media .now) (a .tables .now)) _ (a .call) _ (c .before .before .before .before .before .before .call2 .given .1) refl (c .before .before .prepare .ensures)
 
 same-length-5 : tie.Need-same-length-5
 same-length-5 c = search needs
@@ -109,8 +115,8 @@ same-length-6 c = search needs
 
 returns-3 : tie.Need-returns-3
 returns-3 c =
-    let a = c .before .before .before .before .before .before .before .before .before .before .before .before .before .before .args in
-    applied (a .content .now) (a .locks .now) (a .given .now) (a .stamp) (a .file .now) (a .index .now) (a .shape) (stateOf (a .records) (a .media .now) (a .tables .now)) _ (a .call) _ (c .before .before .before .before .before .before .call3 .given .1) refl (c .before .before .copy .ensures)
+    let a = c .before .before .before .before .before .before .before .before .before .before .before .before .before .before .before .args in
+    applied (a .content .now) (a .locks .now) (a .given .now) (a .stamp) (a .file .now) (a .index .now) (a .backup .now) (a .shape) (stateOf (a .records) (a .media .now) (a .tables .now)) _ (a .call) _ (c .before .before .before .before .before .before .call3 .given .1) refl (c .before .before .copy .ensures)
 
 same-length-7 : tie.Need-same-length-7
 same-length-7 c = search needs
@@ -120,8 +126,8 @@ same-length-8 c = search needs
 
 returns-4 : tie.Need-returns-4
 returns-4 c =
-    let a = c .before .before .before .before .before .before .before .before .before .before .before .before .before .before .args in
-    applied (a .content .now) (a .locks .now) (a .given .now) (a .stamp) (a .file .now) (a .index .now) (a .shape) (stateOf (a .records) (a .media .now) (a .tables .now)) _ (a .call) _ (c .before .before .before .before .before .before .call4 .given .1) refl (c .before .before .trim .ensures)
+    let a = c .before .before .before .before .before .before .before .before .before .before .before .before .before .before .before .args in
+    applied (a .content .now) (a .locks .now) (a .given .now) (a .stamp) (a .file .now) (a .index .now) (a .backup .now) (a .shape) (stateOf (a .records) (a .media .now) (a .tables .now)) _ (a .call) _ (c .before .before .before .before .before .before .call4 .given .1) refl (c .before .before .trim .ensures)
 
 same-length-9 : tie.Need-same-length-9
 same-length-9 c = search needs
@@ -131,8 +137,8 @@ same-length-10 c = search needs
 
 returns-5 : tie.Need-returns-5
 returns-5 c =
-    let a = c .before .before .before .before .before .before .before .before .before .before .before .before .before .before .args in
-    applied (a .content .now) (a .locks .now) (a .given .now) (a .stamp) (a .file .now) (a .index .now) (a .shape) (stateOf (a .records) (a .media .now) (a .tables .now)) _ (a .call) _ (c .before .before .before .before .before .before .call5 .given .1) refl (c .before .before .«open» .ensures)
+    let a = c .before .before .before .before .before .before .before .before .before .before .before .before .before .before .before .args in
+    applied (a .content .now) (a .locks .now) (a .given .now) (a .stamp) (a .file .now) (a .index .now) (a .backup .now) (a .shape) (stateOf (a .records) (a .media .now) (a .tables .now)) _ (a .call) _ (c .before .before .before .before .before .before .call5 .given .1) refl (c .before .before .«open» .ensures)
 
 same-length-11 : tie.Need-same-length-11
 same-length-11 c = search needs
@@ -142,8 +148,8 @@ same-length-12 c = search needs
 
 returns-6 : tie.Need-returns-6
 returns-6 c =
-    let a = c .before .before .before .before .before .before .before .before .before .before .before .before .before .before .args in
-    applied (a .content .now) (a .locks .now) (a .given .now) (a .stamp) (a .file .now) (a .index .now) (a .shape) (stateOf (a .records) (a .media .now) (a .tables .now)) _ (a .call) _ (c .before .before .before .before .before .before .call6 .given .1) refl (c .before .before .issue .ensures)
+    let a = c .before .before .before .before .before .before .before .before .before .before .before .before .before .before .before .args in
+    applied (a .content .now) (a .locks .now) (a .given .now) (a .stamp) (a .file .now) (a .index .now) (a .backup .now) (a .shape) (stateOf (a .records) (a .media .now) (a .tables .now)) _ (a .call) _ (c .before .before .before .before .before .before .call6 .given .1) refl (c .before .before .issue .ensures)
 
 same-length-13 : tie.Need-same-length-13
 same-length-13 c = search needs
@@ -153,8 +159,8 @@ same-length-14 c = search needs
 
 returns-7 : tie.Need-returns-7
 returns-7 c =
-    let a = c .before .before .before .before .before .before .before .before .before .before .before .before .before .before .args in
-    applied (a .content .now) (a .locks .now) (a .given .now) (a .stamp) (a .file .now) (a .index .now) (a .shape) (stateOf (a .records) (a .media .now) (a .tables .now)) _ (a .call) _ (c .before .before .before .before .before .before .call7 .given .1) refl (c .before .before .send .ensures)
+    let a = c .before .before .before .before .before .before .before .before .before .before .before .before .before .before .before .args in
+    applied (a .content .now) (a .locks .now) (a .given .now) (a .stamp) (a .file .now) (a .index .now) (a .backup .now) (a .shape) (stateOf (a .records) (a .media .now) (a .tables .now)) _ (a .call) _ (c .before .before .before .before .before .before .call7 .given .1) refl (c .before .before .send .ensures)
 
 same-length-15 : tie.Need-same-length-15
 same-length-15 c = search needs
@@ -164,8 +170,8 @@ same-length-16 c = search needs
 
 returns-8 : tie.Need-returns-8
 returns-8 c =
-    let a = c .before .before .before .before .before .before .before .before .before .before .before .before .before .before .args in
-    applied (a .content .now) (a .locks .now) (a .given .now) (a .stamp) (a .file .now) (a .index .now) (a .shape) (stateOf (a .records) (a .media .now) (a .tables .now)) _ (a .call) _ (c .before .before .before .before .before .before .call8 .given .1) refl (c .before .before .note .ensures)
+    let a = c .before .before .before .before .before .before .before .before .before .before .before .before .before .before .before .args in
+    applied (a .content .now) (a .locks .now) (a .given .now) (a .stamp) (a .file .now) (a .index .now) (a .backup .now) (a .shape) (stateOf (a .records) (a .media .now) (a .tables .now)) _ (a .call) _ (c .before .before .before .before .before .before .call8 .given .1) refl (c .before .before .note .ensures)
 
 same-length-17 : tie.Need-same-length-17
 same-length-17 c = search needs
@@ -175,8 +181,8 @@ same-length-18 c = search needs
 
 returns-9 : tie.Need-returns-9
 returns-9 c =
-    let a = c .before .before .before .before .before .before .before .before .before .before .before .before .args in
-    applied (a .content .now) (a .locks .now) (a .given .now) (a .stamp) (a .file .now) (a .index .now) (a .shape) (stateOf (a .records) (a .media .now) (a .tables .now)) _ (a .call) _ (c .before .before .before .before .call9 .given .1) refl (c .read .ensures)
+    let a = c .before .before .before .before .before .before .before .before .before .before .before .before .before .args in
+    applied (a .content .now) (a .locks .now) (a .given .now) (a .stamp) (a .file .now) (a .index .now) (a .backup .now) (a .shape) (stateOf (a .records) (a .media .now) (a .tables .now)) _ (a .call) _ (c .before .before .before .before .call9 .given .1) refl (c .read .ensures)
 
 same-length-19 : tie.Need-same-length-19
 same-length-19 c = search needs
@@ -192,8 +198,8 @@ same-length-22 c = search needs
 
 returns-10 : tie.Need-returns-10
 returns-10 c =
-    let a = c .before .before .before .before .before .before .before .before .before .before .before .before .before .before .before .before .before .before .args in
-    exported (a .content .now) (a .locks .now) (a .given .now) (a .stamp) (a .file .now) (a .index .now) (a .shape) (stateOf (a .records) (a .media .now) (a .tables .now)) _ _ _ (a .call) _ _ (c .before .before .before .before .before .before .before .before .before .before .call10 .given .1) (c .before .before .before .before .export .ensures)
+    let a = c .before .before .before .before .before .before .before .before .before .before .before .before .before .before .before .before .before .before .before .args in
+    exported (a .content .now) (a .locks .now) (a .given .now) (a .stamp) (a .file .now) (a .index .now) (a .backup .now) (a .shape) (stateOf (a .records) (a .media .now) (a .tables .now)) _ _ _ (a .call) _ _ (c .before .before .before .before .before .before .before .before .before .before .call10 .given .1) (c .before .before .before .before .export .ensures)
 
 same-length-23 : tie.Need-same-length-23
 same-length-23 c = search needs
@@ -203,8 +209,8 @@ same-length-24 c = search needs
 
 returns-11 : tie.Need-returns-11
 returns-11 c =
-    let a = c .before .before .before .before .before .before .before .before .before .before .before .before .args in
-    applied (a .content .now) (a .locks .now) (a .given .now) (a .stamp) (a .file .now) (a .index .now) (a .shape) (stateOf (a .records) (a .media .now) (a .tables .now)) _ (a .call) _ (c .before .before .before .before .call11 .given .1) refl (c .stop .ensures)
+    let a = c .before .before .before .before .before .before .before .before .before .before .before .before .before .args in
+    applied (a .content .now) (a .locks .now) (a .given .now) (a .stamp) (a .file .now) (a .index .now) (a .backup .now) (a .shape) (stateOf (a .records) (a .media .now) (a .tables .now)) _ (a .call) _ (c .before .before .before .before .call11 .given .1) refl (c .stop .ensures)
 
 same-length-25 : tie.Need-same-length-25
 same-length-25 c = search needs
@@ -214,8 +220,19 @@ same-length-26 c = search needs
 
 returns-12 : tie.Need-returns-12
 returns-12 c =
-    let a = c .before .before .before .before .before .before .before .before .before .before .before .args in
-    applied (a .content .now) (a .locks .now) (a .given .now) (a .stamp) (a .file .now) (a .index .now) (a .shape) (stateOf (a .records) (a .media .now) (a .tables .now)) _ (a .call) _ (c .before .before .before .enum-told .given .1) refl (c .reassign .ensures)
+    let a = c .before .before .before .before .before .before .before .before .before .before .before .before .args in
+    applied (a .content .now) (a .locks .now) (a .given .now) (a .stamp) (a .file .now) (a .index .now) (a .backup .now) (a .shape) (stateOf (a .records) (a .media .now) (a .tables .now)) _ (a .call) _ (c .before .before .before .enum-told .given .1) refl (c .reassign .ensures)
+
+same-length-27 : tie.Need-same-length-27
+same-length-27 c = search needs
+
+same-length-28 : tie.Need-same-length-28
+same-length-28 c = search needs
+
+returns-13 : tie.Need-returns-13
+returns-13 c =
+    let a = c .before .before .before .before .before .before .before .before .before .before .before .before .before .before .before .args in
+    applied (a .content .now) (a .locks .now) (a .given .now) (a .stamp) (a .file .now) (a .index .now) (a .backup .now) (a .shape) (stateOf (a .records) (a .media .now) (a .tables .now)) _ (a .call) _ (c .before .before .before .before .before .before .call12 .given .1) refl (c .before .before .restore .ensures)
 
 pub apply-spec : {M : Type 1} → statement M
 apply-spec =
@@ -245,6 +262,8 @@ apply-spec =
     stop-requires
     enum-told
     reassign-requires
+    enum-known-call-12
+    restore-requires
     same-length
     same-length-2
     returns
@@ -282,4 +301,7 @@ apply-spec =
     returns-11
     same-length-25
     same-length-26
-    returns-12)
+    returns-12
+    same-length-27
+    same-length-28
+    returns-13)

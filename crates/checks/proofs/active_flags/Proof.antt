@@ -21,14 +21,14 @@ loop-holds : tie.Need-loop-holds Inv-loop μ-loop
 unfolding upTo
 loop-holds c = search needs
 
-array-read-active : tie.Need-array-read-active Inv-loop μ-loop
-array-read-active c = search needs
+array-read-but-not : tie.Need-array-read-but-not Inv-loop μ-loop
+array-read-but-not c = search needs
 
-array-read-active-2 : tie.Need-array-read-active-2 Inv-loop μ-loop
-array-read-active-2 c = search needs
+array-read-but-not-2 : tie.Need-array-read-but-not-2 Inv-loop μ-loop
+array-read-but-not-2 c = search needs
 
-active-requires : tie.Need-active-requires Inv-loop μ-loop
-active-requires c κs = search needs
+but-not-requires : tie.Need-but-not-requires Inv-loop μ-loop
+but-not-requires c κs = search needs
 
 array-write-flags : tie.Need-array-write-flags Inv-loop μ-loop
 array-write-flags c = search needs
@@ -40,7 +40,7 @@ loop-less : tie.Need-loop-less Inv-loop μ-loop
 loop-less c = search needs
 
 loop-again : tie.Need-loop-again Inv-loop μ-loop
-loop-again c = (search needs, upTo-step _ _ _ _ _ (c .before .before .loop .inv .1) (c .active .ensures))
+loop-again c = (search needs, upTo-step _ _ _ _ _ (c .before .before .loop .inv .1) (c .but-not .ensures))
 
 returns : tie.Need-returns Inv-loop μ-loop
 returns c = c .before .loop .inv .1 ∙ ap (upTo _ _) (omega arith)
@@ -52,9 +52,9 @@ active-flags-spec =
     Inv-loop
     μ-loop
     loop-holds
-    array-read-active
-    array-read-active-2
-    active-requires
+    array-read-but-not
+    array-read-but-not-2
+    but-not-requires
     array-write-flags
     add-i
     loop-less

@@ -24,8 +24,6 @@ use Rattle.protocol.specs.Events.{after-append, Can-copy, Steps}
 use Rattle.protocol.proofs.Columns.{upd-same, upd²-at}
 use Rattle.protocol.proofs.Facts.{unopened}
 use Rattle.protocol.proofs.Traces.{forgotten, copy-answered, copy-silent, copy-is-send}
-use Rattle.segment.specs.declared.header.Stamp.{Stamp}
-use Rattle.segment.specs.Pair.{Files}
 use Rattle.cluster.specs.declared.Shape.{Shape}
 use Rattle.cluster.specs.declared.Phase.{Phase}
 use Rattle.cluster.specs.declared.Phase.the-variants.{Opening, Open}
@@ -33,9 +31,9 @@ use Rattle.cluster.specs.declared.Server.{Server}
 use Rattle.cluster.specs.declared.Call.the-variants as call
 use Rattle.cluster.specs.State.{State, serverAt, markAt, activeAt, tableAt}
 use Rattle.cluster.specs.Replies.{ok}
-use Rattle.cluster.specs.Refusals.{answered, isOpen, refusesAt}
+use Rattle.cluster.specs.Refusals.{answered, isOpen, refusesAt, restoredSource}
 use Rattle.cluster.specs.Effects.{heard, unheard, acknowledge, mediumAfter, afterMessage, replyTo, withMediumAndServer, appendEffect}
-use Rattle.guarantee.specs.History.{Session, History, setAt, valueOr, onceOpened, put, acknowledging, told}
+use Rattle.guarantee.specs.History.{Element, Session, History, setAt, valueOr, onceOpened, put, acknowledging, told}
 use Rattle.guarantee.proofs.Sessions.{setAt-same, setAt-other}
 use Rattle.guarantee.proofs.Ties.{Sim, Goes, ReplicaTie, OpeningTie, OpenTie, ServersTie, SessionsTie, copyOf, rowOf, storyOf}
 use Rattle.guarantee.proofs.Frames.{replica-frame, session-frame}
@@ -67,8 +65,11 @@ module _ (h : Shape) (x : State) (H : History) (σ : protocol.State) (S : Sim h 
       (rw (setAt-same (H .sessions) z (after (H .sessions z)))
       (record { opened = λ q. absurd (true≢false (sym q ∙ o)); before = λ q. ap after (S .sessions z .before o) }))
 
-module _ (h : Shape) (x : State) (H : History) (σ : protocol.State) (content locks given : List ℕ) (stamp : Stamp) (files : Files) (reader s a b : ℕ) (f : Fate)
-    (B : Before h x H σ (with-call (call.Copy s a b f) content locks given stamp files reader)) where
+module _ (h : Shape) (x : State) (H : History) (σ : protocol.State) (beside : Element) (s a b : ℕ) (f : Fate)
+    (B : Before h x H σ (with-call (call.Copy s a b f) beside)) where
+  abbrev given : List ℕ
+  given = beside .input .given
+
   S : Sim h x H σ
   S = B .sim
 
@@ -109,11 +110,15 @@ module _ (h : Shape) (x : State) (H : History) (σ : protocol.State) (content lo
   T : ReplicaTie (h .places) m (H .standing b) (copyOf σ b)
   T = S .replicas .each b (M .replica)
 
+  -- 17; that a is not restored is not needed
+  fit-source : refusesAt (h .places) v (x .media) a ≡ false
+  fit-source = neither (restoredSource v a) (refusesAt (h .places) v (x .media) a) (B .passed 17) .1
+
   promise-a : σ .promise a ≡ z
-  promise-a = sym (A .promise) ∙ agrees (h .places) v a source (B .passed 17) .promise
+  promise-a = sym (A .promise) ∙ agrees (h .places) v a source fit-source .promise
 
   mark-a : markAt v a ≡ σ .mark a
-  mark-a = sym (agrees (h .places) v a source (B .passed 17) .mark) ∙ A .mark
+  mark-a = sym (agrees (h .places) v a source fit-source .mark) ∙ A .mark
 
   -- the record that is copied
   abbrev bs : List ℕ
@@ -152,7 +157,7 @@ module _ (h : Shape) (x : State) (H : History) (σ : protocol.State) (content lo
 
   -- ================ an open server
 
-  open-played : v .phase ≡ Open → Played h x H σ (with-call (call.Copy s a b f) content locks given stamp files reader)
+  open-played : v .phase ≡ Open → Played h x H σ (with-call (call.Copy s a b f) beside)
   unfolding told
   open-played p =
       open-append h x H σ S (B .inv) s b f given M p active-b (H .standing a) bs accepted
@@ -277,7 +282,7 @@ module _ (h : Shape) (x : State) (H : History) (σ : protocol.State) (content lo
     goes false false n e q = ⊎-elim (λ t. forgets false n (t .1)) (λ g. silent-copied e g n)
         (append-cases h x H σ S s b f given M e bs (room e) (valid e))
 
-    opening-played : Played h x H σ (with-call (call.Copy s a b f) content locks given stamp files reader)
+    opening-played : Played h x H σ (with-call (call.Copy s a b f) beside)
     unfolding told appendEffect
     opening-played =
         let c = refusesAt (h .places) v (x .media) b in
@@ -288,5 +293,5 @@ module _ (h : Shape) (x : State) (H : History) (σ : protocol.State) (content lo
         (ap (λ (q : Phase). cond (isOpen q) (acknowledge (h .replicas) w) w) p)
         (goes c (answered f) (valueOr 0 (replyTo f (ok (cond (isOpen (v .phase)) (w .acked) mark ∷ [])))) refl refl)
 
-  pub copy-played : Played h x H σ (with-call (call.Copy s a b f) content locks given stamp files reader)
+  pub copy-played : Played h x H σ (with-call (call.Copy s a b f) beside)
   copy-played = ⊎-elim opening-played open-played (not-idle (v .phase) (B .passed 5))

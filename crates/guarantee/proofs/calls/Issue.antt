@@ -23,8 +23,6 @@ use Rattle.protocol.specs.Columns.{upd}
 use Rattle.protocol.specs.Events.{Can-issue, after-issue}
 use Rattle.protocol.proofs.Columns.{upd-same, upd-other}
 use Rattle.protocol.proofs.Traces.{issue-answered}
-use Rattle.segment.specs.declared.header.Stamp.{Stamp}
-use Rattle.segment.specs.Pair.{Files}
 use Rattle.cluster.specs.declared.Shape.{Shape}
 use Rattle.cluster.specs.declared.Phase.the-variants.{Open}
 use Rattle.cluster.specs.declared.Server.{Server}
@@ -37,7 +35,7 @@ use Rattle.cluster.proofs.Limited.{has-room, fits-place}
 use Rattle.cluster.proofs.Locked.{aware}
 use Rattle.cluster.proofs.Window.{within, length-held, issued-newest, issued-older}
 use Rattle.cluster.proofs.Marks.{marks-fit}
-use Rattle.guarantee.specs.History.{History, Logged, issuedAs, told}
+use Rattle.guarantee.specs.History.{Element, History, Logged, issuedAs, told}
 use Rattle.guarantee.proofs.Ties.{rowOf, storyOf, loggedOf, OpenTie, ServerTie, ServersTie, SessionTie, SessionsTie, Sim}
 use Rattle.guarantee.proofs.Frames.{server-frame, alone-in, table-others, table-written, session-frame}
 use Rattle.guarantee.proofs.Passing.{below-four, is-open}
@@ -45,8 +43,14 @@ use Rattle.guarantee.proofs.Sessions.{setAt-same, setAt-other, told-iss
 use Rattle.guarantee.proofs.Facts.{open-lives}
 use Rattle.guarantee.proofs.Played.{with-call, Before, Played}
 
-module _ (h : Shape) (x : State) (H : History) (σ : protocol.State) (content locks given : List ℕ) (stamp : Stamp) (files : Files) (reader s : ℕ) (q : Request)
-    (B : Before h x H σ (with-call (call.Issue s q) content locks given stamp files reader)) where
+module _ (h : Shape) (x : State) (H : History) (σ : protocol.State) (beside : Element) (s : ℕ) (q : Request)
+    (B : Before h x H σ (with-call (call.Issue s q) beside)) where
+  abbrev content : List ℕ
+  content = beside .input .content
+
+  abbrev locks : List ℕ
+  locks = beside .input .locks
+
   S : Sim h x H σ
   S = B .sim
 
@@ -98,7 +102,9 @@ module _ (h : Shape) (x : State) (H : History) (σ : protocol.State) (content lo
   can =
       record {
         phase = row .phase;
-        free = λ k m. omega (arith, row .estimate k, aware h x s q content locks given stamp files (B .passes) k m);
+        free = λ k m.
+            let a = beside .input in
+            omega (arith, row .estimate k, aware h x s q content locks (a .given) (a .stamp) (a .files) (a .backup) (B .passes) k m);
         rises = λ k. omega (arith, row .estimate k, rises table locks n k (below k));
         enters = λ k m. omega (arith, next, enters table locks n k size m);
       }
@@ -241,7 +247,7 @@ module _ (h : Shape) (x : State) (H : History) (σ : protocol.State) (content lo
       session-frame (H .sessions) (K z n (loggedOf tx) .sessions) (storyOf σ) (storyOf τ) (S .sessions) z
       (λ u d. setAt-other (H .sessions) z _ u d) stories session
 
-  pub issue-played : Played h x H σ (with-call (call.Issue s q) content locks given stamp files reader)
+  pub issue-played : Played h x H σ (with-call (call.Issue s q) beside)
   unfolding issueEffect told
   issue-played = (
     τ,

@@ -10,10 +10,8 @@ use borrow.Author.Tests.{ltb-false}
 use Rattle.base.proofs.Tests.{neither}
 use Rattle.fate.specs.declared.Fate.{Fate}
 use Rattle.storage.specs.declared.operation.Target.{Target}
-use Rattle.segment.specs.declared.header.Stamp.{Stamp}
-use Rattle.segment.specs.Pair.{Files}
 use Rattle.cluster.specs.declared.Closing.{Closing}
-use Rattle.cluster.specs.declared.Closing.the-variants.{Unresolved, Mark}
+use Rattle.cluster.specs.declared.Closing.the-variants.{Unresolved, Mark, Restored}
 use Rattle.storage.specs.Slots.{storedSlot}
 use Rattle.storage.specs.Log.{markOf}
 use Rattle.storage.specs.Operations.{closedMark, mediumAt, withMedium, prepareWrites}
@@ -26,10 +24,10 @@ use Rattle.cluster.specs.declared.Shape.{Shape}
 use Rattle.cluster.specs.declared.Phase.the-variants.{Opening}
 use Rattle.cluster.specs.declared.Server.{Server}
 use Rattle.cluster.specs.declared.Call.the-variants as call
-use Rattle.cluster.specs.State.{State, serverAt, entryAt}
+use Rattle.cluster.specs.State.{State, serverAt, entryAt, isRestored}
 use Rattle.cluster.specs.Refusals.{answered, noSlot, promiseAbove, refusesPrepare}
 use Rattle.cluster.specs.Effects.{targetOf, heard, unheard, mediumAfter, withMediumAndServer, prepareEffect}
-use Rattle.guarantee.specs.History.{History, told}
+use Rattle.guarantee.specs.History.{Element, History, told}
 use Rattle.guarantee.proofs.Ties.{Sim, Goes, ReplicaTie, ReplicasTie, OpeningTie, isUnresolved, copyOf, rowOf}
 use Rattle.guarantee.proofs.Frames.{replica-frame}
 use Rattle.guarantee.proofs.Passing.{below-four, is-opening}
@@ -38,17 +36,27 @@ use Rattle.guarantee.proofs.Messages.{Message, message-of, accepts-prep
 use Rattle.guarantee.proofs.Hearing.{only-none, only-set, only-then, opening-told, opening-forgets, opening-silent}
 use Rattle.guarantee.proofs.Played.{with-call, Before, Played}
 
--- an unresolved replica keeps its log, and another keeps no more than its closing mark
-kept-mark : (to : Closing) (n : ℕ) → isUnresolved to ≡ true → closedMark (targetOf to) n ≡ n
-kept-mark Unresolved n e = refl
-kept-mark (Mark c) n e = absurd (true≢false (sym e))
+-- an unresolved replica keeps its log, a closed one no more than its closing mark, and a restored one no more than its low-water mark
+kept-mark : (to : Closing) (low n : ℕ) → isUnresolved to ≡ true → closedMark low (targetOf to) n ≡ n
+kept-mark Unresolved low n e = refl
+kept-mark (Mark c) low n e = absurd (true≢false (sym e))
+kept-mark Restored low n e = absurd (true≢false (sym e))
 
-closed-mark : (to : Closing) (n : ℕ) → isUnresolved to ≡ false → (c : ℕ) × (to ≡ Mark c) × (closedMark (targetOf to) n ≤ c)
-closed-mark Unresolved n e = absurd (true≢false e)
-closed-mark (Mark c) n e = (c, refl, omega arith)
+closed-mark : (to : Closing) (low n : ℕ) → isRestored to ≡ false → isUnresolved to ≡ false → (c : ℕ) × (to ≡ Mark c) × (closedMark low (targetOf to) n ≤ c)
+closed-mark Unresolved low n r e = absurd (true≢false e)
+closed-mark (Mark c) low n r e = (c, refl, omega arith)
+closed-mark Restored low n r e = absurd (true≢false r)
 
-module _ (h : Shape) (x : State) (H : History) (σ : protocol.State) (content locks given : List ℕ) (stamp : Stamp) (files : Files) (reader s i : ℕ) (f : Fate)
-    (B : Before h x H σ (with-call (call.Prepare s i f) content locks given stamp files reader)) where
+low-mark : (to : Closing) (low n : ℕ) → isRestored to ≡ true → closedMark low (targetOf to) n ≤ low
+low-mark Unresolved low n r = absurd (true≢false (sym r))
+low-mark (Mark c) low n r = absurd (true≢false (sym r))
+low-mark Restored low n r = omega arith
+
+module _ (h : Shape) (x : State) (H : History) (σ : protocol.State) (beside : Element) (s i : ℕ) (f : Fate)
+    (B : Before h x H σ (with-call (call.Prepare s i f) beside)) where
+  abbrev given : List ℕ
+  given = beside .input .given
+
   S : Sim h x H σ
   S = B .sim
 
@@ -92,7 +100,7 @@ module _ (h : Shape) (x : State) (H : History) (σ : protocol.State) (content lo
     abbrev τ : protocol.State
     τ = prepared σ z i k
 
-    wiped : ReplicaTie (h .places) (left false) (H .standing i) (record { promise = z; mark = k; place = σ .place i })
+    wiped : ReplicaTie (h .places) (left false) (H .standing i) (record { promise = z; mark = k; place = σ .place i; low = σ .low i })
         → ReplicasTie (h .replicas) (h .places) (withMedium (h .places) i (left false) (x .media)) (H .standing) (copyOf τ)
     wiped t =
         replica-frame (h .replicas) (h .places) (x .media) (H .standing) (copyOf σ) (S .replicas) i (M .replica) (left false)
@@ -108,13 +116,20 @@ module _ (h : Shape) (x : State) (H : History) (σ : protocol.State) (content lo
     below : σ .promise i ≤ z
     below = omega (arith, stored, T .promise)
 
-    kept : (k : ℕ) → closedMark to (σ .mark i) ≤ k → σ .handed-unresolved z i ≡ true → σ .mark i ≤ k
-    kept k l u = omega (arith, kept-mark closing (σ .mark i) (row .unresolved i (M .replica) ∙ u))
+    -- the mark that is left when the truncation comes to its end
+    abbrev end : ℕ
+    end = closedMark (σ .low i) to (σ .mark i)
 
-    whole : σ .handed-unresolved z i ≡ false → closedMark to (σ .mark i) ≤ σ .handed-closing z i
-    whole u =
-        let c = closed-mark closing (σ .mark i) (row .unresolved i (M .replica) ∙ u) in
+    kept : (k : ℕ) → end ≤ k → σ .handed-restored z i ≡ false → σ .handed-unresolved z i ≡ true → σ .mark i ≤ k
+    kept k l r u = omega (arith, kept-mark closing (σ .low i) (σ .mark i) (row .unresolved i (M .replica) r ∙ u))
+
+    whole : σ .handed-restored z i ≡ false → σ .handed-unresolved z i ≡ false → end ≤ σ .handed-closing z i
+    whole r u =
+        let c = closed-mark closing (σ .low i) (σ .mark i) (row .restored i (M .replica) ∙ r) (row .unresolved i (M .replica) r ∙ u) in
         omega (arith, c .2, row .closing i (c .0) (M .replica) (c .1))
+
+    low : σ .handed-restored z i ≡ true → end ≤ σ .low i
+    low r = low-mark closing (σ .low i) (σ .mark i) (row .restored i (M .replica) ∙ r)
 
   goes : (c b : Bool) → refusesPrepare z m ≡ c → answered f ≡ b
       → Goes h σ (withMediumAndServer (h .places) x s i (left c) (cond b (heard v i (markOf (h .places) (left c))) (unheard v i))) H
@@ -124,10 +139,10 @@ module _ (h : Shape) (x : State) (H : History) (σ : protocol.State) (content lo
   goes false true e a =
       let t =
       answered-tie (h .places) f given m (H .standing i) (copyOf σ i) T (M .harmless) z to (stored e) session-fits (is-answered f a) in
-      let k = closedMark to (σ .mark i) in
+      let k = closedMark (σ .low i) to (σ .mark i) in
       let unknown = upd² (σ .known) z i false in (
         after-learn (prepared σ z i k) z i,
-        prepare-answered σ z i k (row .phase) (below e) (kept e k (omega arith)) (closed-le to (σ .mark i)) (whole e),
+        prepare-answered σ z i k (row .phase) (below e) (kept e k (omega arith)) (closed-le (σ .low i) to (σ .mark i)) (whole e) (low e),
         record {
           R = S .R;
           Q = S .Q;
@@ -160,6 +175,6 @@ module _ (h : Shape) (x : State) (H : History) (σ : protocol.State) (content lo
       ))
       (prepared-tie (h .places) f given m (H .standing i) (copyOf σ i) T (M .harmless) z to (stored e) session-fits)
 
-  pub prepare-played : Played h x H σ (with-call (call.Prepare s i f) content locks given stamp files reader)
+  pub prepare-played : Played h x H σ (with-call (call.Prepare s i f) beside)
   unfolding told prepareEffect
   prepare-played = goes (refusesPrepare z m) (answered f) refl refl

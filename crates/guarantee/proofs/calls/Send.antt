@@ -10,8 +10,6 @@ use borrow.Author.Tests.{not-false}
 use Rattle.fate.specs.declared.Fate.{Fate}
 use Rattle.storage.specs.Operations.{mediumAt}
 use Rattle.protocol.specs.State as protocol
-use Rattle.segment.specs.declared.header.Stamp.{Stamp}
-use Rattle.segment.specs.Pair.{Files}
 use Rattle.cluster.specs.declared.Shape.{Shape}
 use Rattle.cluster.specs.declared.Phase.the-variants.{Open}
 use Rattle.cluster.specs.declared.Server.{Server}
@@ -19,7 +17,7 @@ use Rattle.cluster.specs.declared.Call.the-variants as call
 use Rattle.cluster.specs.State.{State, serverAt, markAt, activeAt, holds, recordOf, tableAt}
 use Rattle.cluster.specs.Refusals.{refusesAt}
 use Rattle.cluster.proofs.Window.{Within, within}
-use Rattle.guarantee.specs.History.{Transaction, History, transactionIn, told}
+use Rattle.guarantee.specs.History.{Element, Transaction, History, transactionIn, told}
 use Rattle.guarantee.proofs.Ties.{Sim, ReplicaTie, OpenTie, copyOf, rowOf, loggedOf, transactionOf}
 use Rattle.guarantee.proofs.Passing.{below-four, is-open}
 use Rattle.guarantee.proofs.Sessions.{log-issued}
@@ -29,8 +27,11 @@ use Rattle.guarantee.proofs.Hearing.{of-member}
 use Rattle.guarantee.proofs.Appending.{Appendable, open-append}
 use Rattle.guarantee.proofs.Played.{with-call, Before, Played}
 
-module _ (h : Shape) (x : State) (H : History) (σ : protocol.State) (content locks given : List ℕ) (stamp : Stamp) (files : Files) (reader s i : ℕ) (f : Fate)
-    (B : Before h x H σ (with-call (call.Send s i f) content locks given stamp files reader)) where
+module _ (h : Shape) (x : State) (H : History) (σ : protocol.State) (beside : Element) (s i : ℕ) (f : Fate)
+    (B : Before h x H σ (with-call (call.Send s i f) beside)) where
+  abbrev given : List ℕ
+  given = beside .input .given
+
   S : Sim h x H σ
   S = B .sim
 
@@ -104,7 +105,7 @@ module _ (h : Shape) (x : State) (H : History) (σ : protocol.State) (content lo
           whose = issued;
         }
 
-  pub send-played : Played h x H σ (with-call (call.Send s i f) content locks given stamp files reader)
+  pub send-played : Played h x H σ (with-call (call.Send s i f) beside)
   unfolding told
   send-played =
       open-append h x H σ S (B .inv) s i f given M opened active issues (recordOf v (markAt v i + 1))

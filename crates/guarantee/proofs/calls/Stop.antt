@@ -1,24 +1,21 @@
 -- stop: the server becomes idle, and is tied to nothing.
 -- Assumes nothing.
-use mathlib.Core.List.{List}
 use Prim.Native.Nat.{ℕ}
 use lib.ListN.{set}
 use Rattle.protocol.specs.State as protocol
 use Rattle.protocol.specs.Events.{Steps}
-use Rattle.segment.specs.declared.header.Stamp.{Stamp}
-use Rattle.segment.specs.Pair.{Files}
 use Rattle.cluster.specs.declared.Shape.{Shape}
 use Rattle.cluster.specs.declared.Call.the-variants as call
 use Rattle.cluster.specs.State.{State, idleServer}
 use Rattle.cluster.specs.Effects.{stopEffect}
-use Rattle.guarantee.specs.History.{History, told}
+use Rattle.guarantee.specs.History.{Element, History, told}
 use Rattle.guarantee.proofs.Passing.{below-four}
 use Rattle.guarantee.proofs.Ties.{rowOf, ServersTie, Sim}
 use Rattle.guarantee.proofs.Frames.{elsewhere, idle-frame}
 use Rattle.guarantee.proofs.Played.{with-call, Before, Played}
 
-module _ (h : Shape) (x : State) (H : History) (σ : protocol.State) (content locks given : List ℕ) (stamp : Stamp) (files : Files) (reader s : ℕ)
-    (B : Before h x H σ (with-call (call.Stop s) content locks given stamp files reader)) where
+module _ (h : Shape) (x : State) (H : History) (σ : protocol.State) (beside : Element) (s : ℕ)
+    (B : Before h x H σ (with-call (call.Stop s) beside)) where
   S : Sim h x H σ
   S = B .sim
 
@@ -31,6 +28,6 @@ module _ (h : Shape) (x : State) (H : History) (σ : protocol.State) (content lo
   unfolding stopEffect
   stopped = record { R = S .R; Q = S .Q; register = S .register; replicas = S .replicas; servers = T; sessions = S .sessions }
 
-  pub stop-played : Played h x H σ (with-call (call.Stop s) content locks given stamp files reader)
+  pub stop-played : Played h x H σ (with-call (call.Stop s) beside)
   unfolding stopEffect told
   stop-played = (σ, Steps.none, stopped)

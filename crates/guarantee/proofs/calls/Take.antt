@@ -3,7 +3,6 @@
 use mathlib.Core.Path.{_≡_, refl, sym, _∙_, subst}
 use mathlib.Core.Logic.{_≢_}
 use mathlib.Core.Bool.{Bool, true, false, true≢false, false≢true}
-use mathlib.Core.List.{List}
 use Prim.Native.Nat.{ℕ, suc, _+_, _^_, _<_}
 use native.Mathlib.Omega.{arith}
 use lib.ListN.{getD, replicate, getD-replicate}
@@ -14,8 +13,6 @@ use Rattle.protocol.specs.State as protocol
 use Rattle.protocol.specs.Events.{after-take, Steps}
 use Rattle.protocol.proofs.Columns.{upd-same, upd-other}
 use Rattle.protocol.proofs.Traces.{take-answered}
-use Rattle.segment.specs.declared.header.Stamp.{Stamp}
-use Rattle.segment.specs.Pair.{Files}
 use Rattle.cluster.specs.declared.Shape.{Shape}
 use Rattle.cluster.specs.declared.Register.{Register}
 use Rattle.cluster.specs.declared.Phase.the-variants.{Opening}
@@ -24,7 +21,7 @@ use Rattle.cluster.specs.declared.Call.the-variants as call
 use Rattle.cluster.specs.State.{State, idleServer}
 use Rattle.cluster.specs.Refusals.{sessionAtTop}
 use Rattle.cluster.specs.Effects.{withRegisterAndServer, raisedSession, openingServer, takeEffect}
-use Rattle.guarantee.specs.History.{History, setAt, withCurrent, told}
+use Rattle.guarantee.specs.History.{Element, History, setAt, withCurrent, told}
 use Rattle.guarantee.proofs.Passing.{below-four}
 use Rattle.guarantee.proofs.Sessions.{setAt-same, setAt-other}
 use Rattle.guarantee.proofs.Ties.{rowOf, OpeningTie, RegisterTie, Sim}
@@ -32,8 +29,8 @@ use Rattle.guarantee.proofs.Frames.{Elsewhere, server-frame, idle-frame
 use Rattle.guarantee.proofs.Facts.{at-most-seven, next-alone}
 use Rattle.guarantee.proofs.Played.{with-call, Before, Played}
 
-module _ (h : Shape) (x : State) (H : History) (σ : protocol.State) (content locks given : List ℕ) (stamp : Stamp) (files : Files) (reader s : ℕ) (f : Fate)
-    (B : Before h x H σ (with-call (call.Take s f) content locks given stamp files reader)) where
+module _ (h : Shape) (x : State) (H : History) (σ : protocol.State) (beside : Element) (s : ℕ) (f : Fate)
+    (B : Before h x H σ (with-call (call.Take s f) beside)) where
   S : Sim h x H σ
   S = B .sim
 
@@ -64,13 +61,14 @@ module _ (h : Shape) (x : State) (H : History) (σ : protocol.State) (content lo
   -- ---- it arrives
 
   module _ (top : sessionAtTop (g .session) ≡ false) where
-    register : RegisterTie (h .replicas) (raisedSession g) z (σ .unresolved) (σ .closing) (σ .opened)
+    register : RegisterTie (h .replicas) (raisedSession g) z (σ .unresolved) (σ .closing) (σ .restored) (σ .opened)
     register =
         let r = S .register in
         record {
           session = omega (arith, r .session);
           fits = omega (arith, r .fits, eqb-false (g .session + 1) (2 ^ 64) top);
           size = r .size;
+          restored = r .restored;
           unresolved = r .unresolved;
           closing = r .closing;
           entry = r .entry;
@@ -83,6 +81,7 @@ module _ (h : Shape) (x : State) (H : History) (σ : protocol.State) (content lo
           upd-other (σ .phase) z protocol.Opening u d,
           upd-other (σ .handed-unresolved) z (σ .unresolved) u d,
           upd-other (σ .handed-closing) z (σ .closing) u d,
+          upd-other (σ .handed-restored) z (σ .restored) u d,
         )
 
     off : (c : ℕ) → Elsewhere (x .records .servers) (x .tables) (x .tables) (H .current) (setAt (H .current) s c) (rowOf σ) (rowOf τ) s
@@ -121,9 +120,11 @@ module _ (h : Shape) (x : State) (H : History) (σ : protocol.State) (content lo
           upd-same (σ .phase) z protocol.Opening,
           upd-same (σ .handed-unresolved) z (σ .unresolved),
           upd-same (σ .handed-closing) z (σ .closing),
+          upd-same (σ .handed-restored) z (σ .restored),
         )
         (record {
           phase = refl;
+          restored = S .register .restored;
           unresolved = S .register .unresolved;
           closing = S .register .closing;
           known = λ i l. rw (nobody i l) (sym (B .inv .known .nobody z i (omega arith)));
@@ -149,16 +150,16 @@ module _ (h : Shape) (x : State) (H : History) (σ : protocol.State) (content lo
           sessions = S .sessions;
         }
 
-pub take-played : (h : Shape) (x : State) (H : History) (σ : protocol.State) (content locks given : List ℕ) (stamp : Stamp) (files : Files) (reader s : ℕ) (f : Fate)
-    → Before h x H σ (with-call (call.Take s f) content locks given stamp files reader) → Played h x H σ (with-call (call.Take s f) content locks given stamp files reader)
+pub take-played : (h : Shape) (x : State) (H : History) (σ : protocol.State) (beside : Element) (s : ℕ) (f : Fate)
+    → Before h x H σ (with-call (call.Take s f) beside) → Played h x H σ (with-call (call.Take s f) beside)
 unfolding takeEffect told
-take-played h x H σ content locks given stamp files reader s Answered B =
-    rw (B .passed 21) (after-take σ, take-answered σ, answered h x H σ content locks given stamp files reader s Answered B (B .passed 21))
-take-played h x H σ content locks given stamp files reader s Lost B = (σ, Steps.none, lost h x H σ content locks given stamp files reader s Lost B (H .current s))
-take-played h x H σ content locks given stamp files reader s AnswerLost B = go (sessionAtTop (x .records .register .session)) refl
+take-played h x H σ beside s Answered B =
+    rw (B .passed 21) (after-take σ, take-answered σ, answered h x H σ beside s Answered B (B .passed 21))
+take-played h x H σ beside s Lost B = (σ, Steps.none, lost h x H σ beside s Lost B (H .current s))
+take-played h x H σ beside s AnswerLost B = go (sessionAtTop (x .records .register .session)) refl
   where
     go : (b : Bool) → sessionAtTop (x .records .register .session) ≡ b
-        → Played h x H σ (with-call (call.Take s AnswerLost) content locks given stamp files reader)
-    go true e = rw e (σ, Steps.none, lost h x H σ content locks given stamp files reader s AnswerLost B (H .current s))
-    go false e = rw e (after-take σ, take-answered σ, unanswered h x H σ content locks given stamp files reader s AnswerLost B e (H .current s))
-take-played h x H σ content locks given stamp files reader s (Cut w l) B = absurd (true≢false (B .passed 6))
+        → Played h x H σ (with-call (call.Take s AnswerLost) beside)
+    go true e = rw e (σ, Steps.none, lost h x H σ beside s AnswerLost B (H .current s))
+    go false e = rw e (after-take σ, take-answered σ, unanswered h x H σ beside s AnswerLost B e (H .current s))
+take-played h x H σ beside s (Cut w l) B = absurd (true≢false (B .passed 6))

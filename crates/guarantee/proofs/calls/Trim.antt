@@ -15,8 +15,6 @@ use Rattle.protocol.specs.Columns.{upd²}
 use Rattle.protocol.specs.Events.{after-forget, after-trim, Can-trim}
 use Rattle.protocol.proofs.Columns.{upd-same, upd-other, upd²-at}
 use Rattle.protocol.proofs.Traces.{trim-answered, trim-silent}
-use Rattle.segment.specs.declared.header.Stamp.{Stamp}
-use Rattle.segment.specs.Pair.{Files}
 use Rattle.cluster.specs.declared.Shape.{Shape}
 use Rattle.cluster.specs.declared.Phase.the-variants.{Opening}
 use Rattle.cluster.specs.declared.Server.{Server}
@@ -24,18 +22,21 @@ use Rattle.cluster.specs.declared.Call.the-variants as call
 use Rattle.cluster.specs.State.{State, serverAt, markAt, activeAt}
 use Rattle.cluster.specs.Refusals.{answered, refusesAt, voteMark}
 use Rattle.cluster.specs.Effects.{heard, unheard, mediumAfter, withMediumAndServer, trimEffect}
-use Rattle.guarantee.specs.History.{History, told}
+use Rattle.guarantee.specs.History.{Element, History, told}
 use Rattle.guarantee.proofs.Ties.{Sim, Goes, ReplicaTie, ReplicasTie, OpeningTie, copyOf, rowOf}
 use Rattle.guarantee.proofs.Frames.{replica-frame}
 use Rattle.guarantee.proofs.Passing.{below-four, is-opening}
-use Rattle.guarantee.proofs.Counts.{decided-tie}
+use Rattle.guarantee.proofs.Counts.{vote-tie}
 use Rattle.guarantee.proofs.Operations.{trimmed, trimmed-tie}
 use Rattle.guarantee.proofs.Messages.{Message, message-of, agrees, accepts}
 use Rattle.guarantee.proofs.Hearing.{only-none, only-set, opening-told, opening-forgets, opening-silent}
 use Rattle.guarantee.proofs.Played.{with-call, Before, Played}
 
-module _ (h : Shape) (x : State) (H : History) (σ : protocol.State) (content locks given : List ℕ) (stamp : Stamp) (files : Files) (reader s i : ℕ) (f : Fate)
-    (B : Before h x H σ (with-call (call.Trim s i f) content locks given stamp files reader)) where
+module _ (h : Shape) (x : State) (H : History) (σ : protocol.State) (beside : Element) (s i : ℕ) (f : Fate)
+    (B : Before h x H σ (with-call (call.Trim s i f) beside)) where
+  abbrev given : List ℕ
+  given = beside .input .given
+
   S : Sim h x H σ
   S = B .sim
 
@@ -81,9 +82,7 @@ module _ (h : Shape) (x : State) (H : History) (σ : protocol.State) (content lo
         let above : D < markAt v i = ltb-true D (markAt v i) (not-false _ (B .passed 16)) in
         record {
           phase = row .phase;
-          decided =
-              decided-tie (h .replicas) σ z (S .R) (S .Q) (activeAt v) (markAt v) (row .known) (row .recorded)
-              (not-false (decided (activeAt v) (markAt v) (h .replicas)) (B .passed 8));
+          decided = vote-tie (h .replicas) σ z (S .R) (S .Q) v row (B .passed 8);
           known = known;
           promise = sym (T .promise) ∙ A .promise;
           above = omega (arith, a .reaches, A .mark);
@@ -138,6 +137,6 @@ module _ (h : Shape) (x : State) (H : History) (σ : protocol.State) (content lo
     },
   )
 
-  pub trim-played : Played h x H σ (with-call (call.Trim s i f) content locks given stamp files reader)
+  pub trim-played : Played h x H σ (with-call (call.Trim s i f) beside)
   unfolding told trimEffect
   trim-played = goes (refusesAt (h .places) v (x .media) i) (answered f) refl refl

@@ -8,8 +8,8 @@ use Rattle.protocol.specs.Columns.{upd}
 use Rattle.protocol.specs.State.{Tx, State}
 use Rattle.protocol.specs.Events.{Can-copy, after-copy}
 use Rattle.protocol.proofs.Columns.{upd-elim, upd²-elim, upd²-at, upd²-other, append-up, append-cases}
-use Rattle.protocol.proofs.Invariant.{Holds, Taken, Inv}
-use Rattle.protocol.proofs.Facts.{recorded-newest, acks-heard, logs-appended}
+use Rattle.protocol.proofs.Invariant.{Holds, TakenIn, Inv}
+use Rattle.protocol.proofs.Facts.{recorded-newest, acks-heard, logs-appended, lows-appended}
 
 module _ (σ : State) (I : Inv σ) (s a b : ℕ) (g : Can-copy σ s a b) where
   abbrev τ : State
@@ -22,7 +22,7 @@ module _ (σ : State) (I : Inv σ) (s a b : ℕ) (g : Can-copy σ s a b) where
   next : Holds (σ .place) (σ .log) (σ .issued) a (σ .base s) (suc (σ .mark b))
   next = I .heard .copied s a (suc (σ .mark b)) (g .phase) (g .known-a) (g .promise-a) (g .more)
 
-  f : Taken (σ .session) (σ .newest) (σ .closing) (σ .promise) (σ .opened) (σ .member) s (σ .base s) (σ .handed-unresolved s) (σ .handed-closing s)
+  f : TakenIn σ s
   f = I .taken s (g .phase)
 
   -- the new marks
@@ -58,9 +58,11 @@ module _ (σ : State) (I : Inv σ) (s a b : ℕ) (g : Can-copy σ s a b) where
           (rw (d, q .1) (next .0), cc (q .2, next .1, q .1, d)))
           (append-cases (σ .place) (σ .mark) b x j n l);
     };
+    lows = lows-appended σ I b (σ .base s) x (f .base-opened) (omega (arith, f .below, g .promise-b))
+        (λ u o h. f .top u o (omega (arith, g .promise-b))) (next .0) (next .1);
     votes = record {
-      fell = λ j m e h r. rw newest-row (I .votes .fell j m e (omega (arith, append-up (σ .mark) b j)) (rw newest-row at r));
-      missed = λ t j m p l k e h r. rw newest-row (I .votes .missed t j m p l k e (up t j m h) (rw newest-row at r));
+      fell = λ j m v e h r. rw newest-row (I .votes .fell j m v e (omega (arith, append-up (σ .mark) b j)) (rw newest-row at r));
+      missed = λ t j m p l k v e h r. rw newest-row (I .votes .missed t j m p l k v e (up t j m h) (rw newest-row at r));
     };
     locks = I .locks;
   }

@@ -10,7 +10,7 @@ use Rattle.protocol.specs.Events.{Can-hear, after-hear}
 use Rattle.protocol.proofs.Columns.{upd-other, upd²-elim}
 use Rattle.protocol.proofs.Counting.{count-mono}
 use Rattle.protocol.proofs.Invariant.{Never, Inv}
-use Rattle.protocol.proofs.Facts.{opening≢open, unackable-kept}
+use Rattle.protocol.proofs.Facts.{opening≢open, unackable-kept, unrestored}
 
 module _ (σ : State) (I : Inv σ) (s i : ℕ) (g : Can-hear σ s i) where
   abbrev τ : State
@@ -33,7 +33,10 @@ module _ (σ : State) (I : Inv σ) (s i : ℕ) (g : Can-hear σ s i) where
 
   -- a member holds no more than is issued
   fits : σ .mark i ≤ σ .issued s
-  fits = I .logs .prefix i s (σ .mark i) (I .numbers .live s (g .phase)) (g .member) (λ u o h. omega (arith, g .promise)) (omega arith) .0
+  fits =
+      let o = I .numbers .live s (g .phase) in
+      let r = unrestored σ I s i o (g .member) (g .promise) in
+      I .logs .prefix i s (σ .mark i) r o (g .member) (λ u o h. omega (arith, g .promise)) (omega arith) .0
 
   pub hear-inv : Inv (after-hear σ s i)
   hear-inv = record {
@@ -56,12 +59,13 @@ module _ (σ : State) (I : Inv σ) (s i : ℕ) (g : Can-hear σ s i) where
     };
     logs = I .logs;
     heard = record { exact = λ t j p k e. rw (opening-row t p) (I .heard .exact t j p k e); copied = I .heard .copied };
+    lows = I .lows;
     votes = record {
-      fell = λ j m e l. upd²-elim (λ (y : ℕ). m ≤ y → Never τ σ.newest m) (σ .recorded) s i (σ .mark i) σ.newest j
-          (λ d f h. absurd (omega (arith, ap (σ .mark) f))) (λ n h. unackable σ.newest m (I .votes .fell j m e l h));
-      missed = λ t j m p l k e h. upd²-elim (λ (y : ℕ). m ≤ y → Never τ σ.newest m) (σ .recorded) s i (σ .mark i) σ.newest j
+      fell = λ j m v e l. upd²-elim (λ (y : ℕ). m ≤ y → Never τ σ.newest m) (σ .recorded) s i (σ .mark i) σ.newest j
+          (λ d f h. absurd (omega (arith, ap (σ .mark) f))) (λ n h. unackable σ.newest m (I .votes .fell j m v e l h));
+      missed = λ t j m p l k v e h. upd²-elim (λ (y : ℕ). m ≤ y → Never τ σ.newest m) (σ .recorded) s i (σ .mark i) σ.newest j
           (λ d f r. absurd (omega (arith, I .known .promised t j p k, ap (σ .promise) f, g .promise)))
-          (λ n r. unackable σ.newest m (I .votes .missed t j m p l k e (rw (opening-row t p) at h) r));
+          (λ n r. unackable σ.newest m (I .votes .missed t j m p l k v e (rw (opening-row t p) at h) r));
     };
     locks = I .locks;
   }

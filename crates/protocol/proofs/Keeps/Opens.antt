@@ -1,8 +1,8 @@
 -- opens keeps the invariant: the new session joins the chain at D, above which every older one is unackable.
 -- Assumes nothing.
 use mathlib.Core.Path.{_≡_, refl, sym, _∙_, ap}
-use mathlib.Core.Logic.{_≢_}
-use mathlib.Core.Bool.{Bool, true, false}
+use mathlib.Core.Logic.{_⊎_, inl, inr, ⊎-elim, _≢_}
+use mathlib.Core.Bool.{Bool, true, false, not, _&&_, false≢true}
 use mathlib.Core.List.{List·Memᴰ}
 use Prim.Native.Nat.{ℕ, _≤_, _<_}
 use native.Mathlib.Omega.{arith}
@@ -11,8 +11,8 @@ use Rattle.protocol.specs.Marks.{flagged?, reaches?, clean}
 use Rattle.protocol.specs.Events.{Can-open, after-open}
 use Rattle.protocol.proofs.Columns.{upd-elim, upd-at, upd-same, upd-other}
 use Rattle.protocol.proofs.Counting.{count-mono}
-use Rattle.protocol.proofs.Invariant.{Never, Recorded, NewestUpTo, Holds, Taken, Inv}
-use Rattle.protocol.proofs.Facts.{opening≢open}
+use Rattle.protocol.proofs.Invariant.{Never, Recorded, NewestUpTo, Holds, TakenIn, Inv}
+use Rattle.protocol.proofs.Facts.{not-both, opening≢open}
 use Rattle.protocol.proofs.Clean.{clean-is, older, start-below, unackable-above, clean-promise, clean-mark, clean-holds, clean-same, start-agree, closing-kept, closing-below, closing-agree, closing-later}
 
 module _ (σ : State) (I : Inv σ) (s D a : ℕ) (g : Can-open σ s D a) where
@@ -65,6 +65,9 @@ module _ (σ : State) (I : Inv σ) (s D a : ℕ) (g : Can-open σ s D a) where
   member-new : τ .member s ≡ clean σ s D
   member-new = upd-same (σ .member) s (clean σ s D)
 
+  member-new-at : (i : ℕ) → τ .member s i ≡ clean σ s D i
+  member-new-at i = ap (λ (f : ℕ → Bool). f i) member-new
+
   start-new : τ .start s ≡ D
   start-new = upd-same (σ .start) s D
 
@@ -77,11 +80,37 @@ module _ (σ : State) (I : Inv σ) (s D a : ℕ) (g : Can-open σ s D a) where
   acknowledged-new : τ .acknowledged s ≡ D
   acknowledged-new = upd-same (σ .acknowledged) s D
 
+  -- what is not restored afterwards was not before, or is clean
+  not-restored : (i : ℕ) → τ .restored i ≡ false → (σ .restored i ≡ false) ⊎ (clean σ s D i ≡ true)
+  not-restored i = go (σ .restored i) (clean σ s D i)
+    where
+      go : (a b : Bool) → (not b && a) ≡ false → (a ≡ false) ⊎ (b ≡ true)
+      go a false e = inl e
+      go a true e = inr refl
+
+  -- what is restored afterwards was so before, and is not clean
+  still-restored : (i : ℕ) → τ .restored i ≡ true → (σ .restored i ≡ true) × (clean σ s D i ≡ false)
+  still-restored i = go (σ .restored i) (clean σ s D i)
+    where
+      go : (a b : Bool) → (not b && a) ≡ true → (a ≡ true) × (b ≡ false)
+      go a false e = (e, refl)
+      go a true e = absurd (false≢true e)
+
+  unclean : (i : ℕ) → τ .restored i ≡ false → τ .member s i ≡ false → σ .restored i ≡ false
+  unclean i r m = ⊎-elim (λ q. q) (λ c. absurd (not-both c (sym (member-new-at i) ∙ m))) (not-restored i r)
+
   -- ---- clauses that take more than a line
 
+  -- an older session is not the newest up to what a clean replica promises, which is s
+  passed : (i b : ℕ) → σ .opened b ≡ true → clean σ s D i ≡ true → ¬ NewestUpTo (τ .opened) (σ .promise i) b
+  passed i b o c h = omega (
+    arith,
+    h s (upd-same (σ .opened) s true) (omega (arith, clean-promise σ I s D a g i c)),
+    older σ I s D a g b o,
+  )
+
   -- a session that was taken earlier and is still opening
-  stale : (t : ℕ) → s ≢ t → σ .phase t ≡ Opening
-      → Taken (τ .session) (τ .newest) (τ .closing) (τ .promise) (τ .opened) (τ .member) t (σ .base t) (σ .handed-unresolved t) (σ .handed-closing t)
+  stale : (t : ℕ) → s ≢ t → σ .phase t ≡ Opening → TakenIn τ t
   stale t n p = record {
     taken = f .taken;
     base-opened = still (σ .base t) (f .base-opened);
@@ -89,19 +118,23 @@ module _ (σ : State) (I : Inv σ) (s D a : ℕ) (g : Can-open σ s D a) where
     top = λ u ou. each (λ u. u ≤ t → u ≤ σ .base t) (λ l. absurd (omega (arith, less))) (λ u o m. f .top u o) u ou;
     entries = λ i. rw (member-old (σ .base t) (other _ (f .base-opened))) (f .entries i);
     shut = λ i. rw (member-old (σ .base t) (other _ (f .base-opened)))
-        (λ m l. (dirty i l (clean σ s D i) refl, closing-kept σ I s D a g i (f .shut i m l .0) ∙ f .shut i m l .1));
+        (λ m l. (member-new-at i ∙ dirty i l, closing-kept σ I s D a g i (f .shut i m l .0) ∙ f .shut i m l .1));
+    marked = λ i l. rw (dirty i l) (f .marked i l);
   }
     where
-      f : Taken (σ .session) (σ .newest) (σ .closing) (σ .promise) (σ .opened) (σ .member) t (σ .base t) (σ .handed-unresolved t) (σ .handed-closing t)
+      f : TakenIn σ t
       f = I .taken t p
 
       less : t < s
       less = omega (arith, f .taken, g .session)
 
       -- a replica that has not promised more than t is not clean
-      dirty : (i : ℕ) → σ .promise i ≤ t → (b : Bool) → clean σ s D i ≡ b → τ .member s i ≡ false
-      dirty i l false e = rw upd-same e
-      dirty i l true e = absurd (omega (arith, clean-promise σ I s D a g i e, less))
+      dirty : (i : ℕ) → σ .promise i ≤ t → clean σ s D i ≡ false
+      dirty i l = go (clean σ s D i) refl
+        where
+          go : (b : Bool) → clean σ s D i ≡ b → clean σ s D i ≡ false
+          go false e = e
+          go true e = absurd (omega (arith, clean-promise σ I s D a g i e, less))
 
   -- what lies within all later starting marks did so before
   before : (t n : ℕ) → ((w : ℕ) → τ .opened w ≡ true → t < w → n ≤ τ .start w) → (w : ℕ) → σ .opened w ≡ true → t < w → n ≤ σ .start w
@@ -143,7 +176,10 @@ module _ (σ : State) (I : Inv σ) (s D a : ℕ) (g : Can-open σ s D a) where
       joined = λ t j. each (λ t. τ .member t j ≡ true → t ≤ σ .promise j)
           (rw member-new (λ c. omega (arith, clean-promise σ I s D a g j c)))
           (λ t o n. rw (member-old t n) (I .numbers .joined t j o)) t;
-      entries = λ i. ap (λ (f : ℕ → Bool). f i) (sym member-new);
+      parted = λ t j. each (λ t. τ .member t j ≡ true → τ .restored j ≡ true → t < σ .promise j)
+          (λ m r. absurd (not-both (sym (member-new-at j) ∙ m) (still-restored j r .1)))
+          (λ t o n. rw (member-old t n) (λ m r. I .numbers .parted t j o m (still-restored j r .0))) t;
+      entries = λ i. sym (member-new-at i);
     };
     taken = λ t p. stale t (was t p .0) (was t p .1);
     known = record { nobody = I .known .nobody; promised = λ t j p. I .known .promised t j (was t p .1) };
@@ -170,11 +206,14 @@ module _ (σ : State) (I : Inv σ) (s D a : ℕ) (g : Can-open σ s D a) where
           (λ t o n. rw (member-old t n, issued-old t n) (I .acks .within t j o)) t;
     };
     logs = record {
-      prefix = λ i b n. each (λ b. τ .member b i ≡ true → NewestUpTo (τ .opened) (σ .promise i) b → n ≤ σ .mark i → Holds (σ .place) (τ .log) (τ .issued) i b n)
+      prefix = λ i b n r. each (λ b. τ .member b i ≡ true → NewestUpTo (τ .opened) (σ .promise i) b → n ≤ σ .mark i → Holds (σ .place) (τ .log) (τ .issued) i b n)
           (rw (member-new, issued-new, log-new)
           (λ c h l. let k : n ≤ D = omega (arith, clean-mark σ I s D a g i c) in (k, clean-same σ I s D a g i n c k)))
-          (λ b o k. rw (member-old b k, issued-old b k, log-old b k) (λ m h l. I .logs .prefix i b n o m (λ u ou e. h u (still u ou) e) l)) b;
-      closed = λ i n m l h. rw log-new (closing-agree σ I s D a g i n l h);
+          (λ b o k. rw (member-old b k, issued-old b k, log-old b k) (λ m h l. ⊎-elim
+          (λ q. I .logs .prefix i b n q o m (λ u ou e. h u (still u ou) e) l)
+          (λ c. absurd (passed i b o c h))
+          (not-restored i r))) b;
+      closed = λ i n r m l h. rw log-new (closing-agree σ I s D a g i n (unclean i r m) l h);
       closes = λ i m. rw start-new (closing-below σ I s D a g i);
       later = λ i u m. each (λ u. σ .promise i < u → τ .closing i ≤ τ .start u)
           (λ l. rw start-new (closing-below σ I s D a g i)) (λ u o n l. rw (start-old u n) (closing-later σ I s D a g i u o l)) u;
@@ -185,11 +224,18 @@ module _ (σ : State) (I : Inv σ) (s D a : ℕ) (g : Can-open σ s D a) where
           let b = other _ (I .taken t (was t p .1) .base-opened) in
           rw (issued-old _ b, log-old _ b) (I .heard .copied t j n (was t p .1) k e l);
     };
+    lows = λ i. let w = I .lows i in record {
+      session = w .session;
+      below = w .below;
+      «open» = still (w .session) (w .«open»);
+      within = rw (start-old (w .session) (other _ (w .«open»))) (w .within);
+      agrees = λ n l h. rw (log-old (w .session) (other _ (w .«open»))) (w .agrees n l h);
+    };
     votes = record {
-      fell = λ i m e l h.
+      fell = λ i m r e l h.
           let c : clean σ s D i ≡ true = rw upd-same at e in
           absurd (omega (arith, clean-mark σ I s D a g i c, clean-is σ s D i c .1));
-      missed = λ t j m p l k e h r. absurd (omega (arith, I .taken t (was t p .1) .taken, g .session));
+      missed = λ t j m p l k v e h r. absurd (omega (arith, I .taken t (was t p .1) .taken, g .session));
     };
     locks = record {
       floor = λ t l. each (λ t. τ .start t ≤ τ .estimate t l) (rw (start-new, upd-same (σ .estimate) s _) (omega arith))

@@ -7,10 +7,10 @@ use Rattle.replay.proofs.run.Statement.{statement}
 use Rattle.replay.proofs.run.Tie as tie
 
 abbrev Inv-loop : tie.InvT-loop
-Inv-loop m₀ tables₀ w₀ line₀ turns₀ m tables w line turns = length line ≡ 2000
+Inv-loop m₀ tables₀ backup₀ w₀ line₀ turns₀ m tables backup w line turns = length line ≡ 2000
 
 abbrev μ-loop : tie.MeasureT-loop
-μ-loop m₀ tables₀ w₀ line₀ turns₀ m tables w line turns = turns
+μ-loop m₀ tables₀ backup₀ w₀ line₀ turns₀ m tables backup w line turns = turns
 
 loop-holds : tie.Need-loop-holds Inv-loop μ-loop
 loop-holds c = search needs

@@ -61,7 +61,7 @@ mark-after-requires c κs =
     let w = c .before .before .before .before .before .perform .ensures ∙ ap (λ (n : ℕ). after (a .f) (a .given .now) (writesOf n (a .src .now) (a .op) (a .m .now)) (a .m .now)) (d .0) in (
       p .0,
       (
-        omega (arith, c .before .before .before .before .before .perform .kept .1 .0, p .1 .0 .size),
+        omega (arith, c .before .before .before .before .before .perform .kept .1 .0, p .1 .0 .size, d .0),
         known-mark r (a .places) (a .m .now) (d .0) (d .1) (a .f) (a .given .now) (a .session) (a .recorded) (a .op) (a .src .now) _ (p .1 .1 .1 .0) (p .1 .1 .0 .0) (p .1 .1 .0 .1)
             (sym j ∙ c .before .before .before .before .before .before .before .if1 .left) w (sym (c .before .before .answers .ensures) ∙ c .before .if2 .taken),
       ),
@@ -78,7 +78,7 @@ returns-3 c =
     let j = rw (c .before .before .before .before .before .before .before .before .before .before .is-prepare .ensures) at (c .before .before .before .before .before .before .before .before .before .judged .ensures .0) in
     let w = c .before .before .before .before .before .before .perform .ensures ∙ ap (λ (n : ℕ). after (a .f) (a .given .now) (writesOf n (a .src .now) (a .op) (a .m .now)) (a .m .now)) (d .0) in
     performing r (a .places) (a .m .now) (d .0) (d .1) (a .f) (a .given .now) (a .session) (a .recorded) (a .op) (a .src .now) _ _
-    (sym j ∙ c .before .before .before .before .before .before .before .before .if1 .left) w (heard-mark (a .f) _ _ (sym (c .before .before .before .answers .ensures) ∙ c .before .before .if2 .taken) (c .mark-after .ensures))
+    (sym j ∙ c .before .before .before .before .before .before .before .before .if1 .left) w (heard-mark (a .f) _ _ _ _ (sym (c .before .before .before .answers .ensures) ∙ c .before .before .if2 .taken) (d .0) (c .mark-after .ensures))
 
 same-length-3 : tie.Need-same-length-3
 same-length-3 c = search needs

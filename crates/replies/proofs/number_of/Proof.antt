@@ -79,6 +79,9 @@ enum-told-24 c = search needs
 enum-told-25 : tie.Need-enum-told-25
 enum-told-25 c = search needs
 
+enum-told-26 : tie.Need-enum-told-26
+enum-told-26 c = search needs
+
 returns : tie.Need-returns
 returns c = rw (c .enum-told .given .1)
 
@@ -154,6 +157,9 @@ returns-24 c = rw (c .enum-told24 .given .1)
 returns-25 : tie.Need-returns-25
 returns-25 c = rw (c .enum-told25 .given .1)
 
+returns-26 : tie.Need-returns-26
+returns-26 c = rw (c .enum-told26 .given .1)
+
 pub number-of-spec : {M : Type 1} → statement M
 number-of-spec =
     tie.close
@@ -183,6 +189,7 @@ number-of-spec =
     enum-told-23
     enum-told-24
     enum-told-25
+    enum-told-26
     returns
     returns-2
     returns-3
@@ -207,4 +214,5 @@ number-of-spec =
     returns-22
     returns-23
     returns-24
-    returns-25)
+    returns-25
+    returns-26)

@@ -49,6 +49,15 @@ part-index-start c = search needs
 part-index-end : tie.Need-part-index-end
 part-index-end c = search needs
 
+sub-apply-4 : tie.Need-sub-apply-4
+sub-apply-4 c = search needs
+
+part-apply-start-2 : tie.Need-part-apply-start-2
+part-apply-start-2 c = search needs
+
+part-apply-end-2 : tie.Need-part-apply-end-2
+part-apply-end-2 c = search needs
+
 apply-requires : tie.Need-apply-requires
 apply-requires c κs = search needs
 
@@ -60,11 +69,11 @@ same-length-2 c = search needs
 
 returns-2 : tie.Need-returns-2
 returns-2 c =
-    let a = c .before .before .before .before .before .before .before .before .before .before .before .before .before .before .before .before .before .before .before .before .before .before .args in
+    let a = c .before .before .before .before .before .before .before .before .before .before .before .before .before .before .before .before .before .before .before .before .before .before .before .before .args in
     let r = c .before .before .before .before .before .before .before .apply in
-    let z = c .before .before .before .before .before .before .before .before .before .before .before .before .before .size in
-    let e = sym (c .before .before .before .before .before .before .before .before .before .before .before .before .before .before .before .is-accepted .ensures) ∙ not-false _ (c .before .before .before .before .before .before .before .before .before .before .before .before .before .before .if1 .left) in
-    let l = r .kept .1 .1 .0 ∙ length-part 0 (z .result - 0) (a .m .now) (omega (arith, c .before .before .before .before .before .before .before .before .before .before .before .before .before .before .before .before .before .before .before .before .before .before .pre, z .ensures .1)) ∙ sub-none (z .result) in
+    let z = c .before .before .before .before .before .before .before .before .before .before .before .before .before .before .before .size in
+    let e = sym (c .before .before .before .before .before .before .before .before .before .before .before .before .before .before .before .before .before .is-accepted .ensures) ∙ not-false _ (c .before .before .before .before .before .before .before .before .before .before .before .before .before .before .before .before .if1 .left) in
+    let l = r .kept .1 .1 .0 ∙ length-part 0 (z .result - 0) (a .m .now) (omega (arith, c .before .before .before .before .before .before .before .before .before .before .before .before .before .before .before .before .before .before .before .before .before .before .before .before .pre, z .ensures .1)) ∙ sub-none (z .result) in
     made-call (inputOf (a .call) (a .content .now) (a .locks .now)) (a .h) (a .m .now) (a .tables .now) (r .last .1 .1 .0) (r .last .1 .1 .1 .0) (z .result) (r .result) e
     (z .ensures .0) l (r .ensures .0)
 
@@ -84,6 +93,9 @@ call-line-spec =
     sub-apply-3
     part-index-start
     part-index-end
+    sub-apply-4
+    part-apply-start-2
+    part-apply-end-2
     apply-requires
     same-length
     same-length-2

@@ -18,14 +18,14 @@ abbrev μ-loop : tie.MeasureT-loop
 loop-holds : tie.Need-loop-holds Inv-loop μ-loop
 loop-holds c = (search needs, omega arith)
 
-mul-known-mark : tie.Need-mul-known-mark Inv-loop μ-loop
-mul-known-mark c = search needs
+mul-voter-mark : tie.Need-mul-voter-mark Inv-loop μ-loop
+mul-voter-mark c = search needs
 
-shared-slice-read-known-mark : tie.Need-shared-slice-read-known-mark Inv-loop μ-loop
-shared-slice-read-known-mark c = search needs
+shared-slice-read-voter-mark : tie.Need-shared-slice-read-voter-mark Inv-loop μ-loop
+shared-slice-read-voter-mark c = search needs
 
-known-mark-requires : tie.Need-known-mark-requires Inv-loop μ-loop
-known-mark-requires c κs = c .before .before .before .before .pre .below _ (c .before .loop-test .taken)
+voter-mark-requires : tie.Need-voter-mark-requires Inv-loop μ-loop
+voter-mark-requires c κs = c .before .before .before .before .pre .below _ (c .before .loop-test .taken)
 
 higher-requires : tie.Need-higher-requires Inv-loop μ-loop
 higher-requires c κs = search needs
@@ -37,7 +37,7 @@ loop-less : tie.Need-loop-less Inv-loop μ-loop
 loop-less c = search needs
 
 loop-again : tie.Need-loop-again Inv-loop μ-loop
-loop-again c = (search needs, c .before .before .before .before .loop .inv .1 ∙ highest-turn _ _ _ _ _ _ (c .before .before .before .loop-test .taken) (c .before .known-mark .ensures) (c .higher .ensures))
+loop-again c = (search needs, c .before .before .before .before .loop .inv .1 ∙ highest-turn _ _ _ _ _ _ (c .before .before .before .loop-test .taken) (c .before .voter-mark .ensures) (c .higher .ensures))
 
 returns : tie.Need-returns Inv-loop μ-loop
 returns c = highest-end _ _ _ _ (c .loop-test .left) ∙ sym (c .before .loop .inv .1)
@@ -49,9 +49,9 @@ highest-known-spec =
     Inv-loop
     μ-loop
     loop-holds
-    mul-known-mark
-    shared-slice-read-known-mark
-    known-mark-requires
+    mul-voter-mark
+    shared-slice-read-voter-mark
+    voter-mark-requires
     higher-requires
     add-k
     loop-less

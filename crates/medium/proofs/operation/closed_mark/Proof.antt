@@ -12,11 +12,30 @@ enum-known-to c = search needs
 lesser-requires : tie.Need-lesser-requires
 lesser-requires c κs = search needs
 
+enum-told-2 : tie.Need-enum-told-2
+enum-told-2 c = search needs
+
+lesser-requires-2 : tie.Need-lesser-requires-2
+lesser-requires-2 c κs = search needs
+
 returns : tie.Need-returns
 returns c = search needs
 
 returns-2 : tie.Need-returns-2
 returns-2 c = rw (c .before .before .to .given .1) (c .lesser .ensures)
 
+returns-3 : tie.Need-returns-3
+returns-3 c = rw (c .before .enum-told2 .given .1) (c .lesser2 .ensures)
+
 pub closed-mark-spec : {M : Type 1} → statement M
-closed-mark-spec = tie.close (tie.spec enum-told enum-known-to lesser-requires returns returns-2)
+closed-mark-spec =
+    tie.close
+    (tie.spec
+    enum-told
+    enum-known-to
+    lesser-requires
+    enum-told-2
+    lesser-requires-2
+    returns
+    returns-2
+    returns-3)

@@ -24,17 +24,17 @@ enum-told-2 c = search needs
 
 mark-from-requires : tie.Need-mark-from-requires
 mark-from-requires c κs =
-    let p = c .before .before .before .pre in
+    let p = c .before .before .before .before .pre in
     (p .0, (p .1 .0, rw (c .enum-told2 .given .1) at (p .1 .1)))
 
 returns : tie.Need-returns
-returns c = c .closed-mark .ensures ∙ sym (rw (c .before .before .op .given .1) at (c .before .before .before .before .before .pre .1 .1))
+returns c = c .closed-mark .ensures ∙ sym (rw (c .before .before .op .given .1) at (c .before .before .before .before .before .before .pre .1 .1))
 
 returns-2 : tie.Need-returns-2
-returns-2 c = c .lesser .ensures ∙ sym (rw (c .before .before .op2 .given .1) at (c .before .before .before .before .before .pre .1 .1))
+returns-2 c = c .lesser .ensures ∙ sym (rw (c .before .before .op2 .given .1) at (c .before .before .before .before .before .before .pre .1 .1))
 
 returns-3 : tie.Need-returns-3
-returns-3 c = sym (rw (c .enum-told .given .1) at (c .before .before .before .pre .1 .1))
+returns-3 c = sym (rw (c .enum-told .given .1) at (c .before .before .before .before .pre .1 .1))
 
 returns-4 : tie.Need-returns-4
 returns-4 c = search needs

@@ -8,8 +8,8 @@ use Rattle.register_calls.proofs.open.count_ballot.Tie as tie
 active-flags-requires : tie.Need-active-flags-requires
 active-flags-requires c κs = search needs
 
-vote-of-requires : tie.Need-vote-of-requires
-vote-of-requires c κs = search needs
+vote-among-requires : tie.Need-vote-among-requires
+vote-among-requires c κs = search needs
 
 enum-known-d : tie.Need-enum-known-d
 enum-known-d c = search needs
@@ -21,7 +21,7 @@ returns : tie.Need-returns
 returns c =
     let a = c .before .before .before .before .before .before .before .args in
     record {
-      voted = not-decided (a .v) (a .r) _ (c .before .before .before .before .before .before .before .pre) (c .before .before .before .active-flags .ensures) (c .before .before .vote-of .ensures) (c .enum-told .given .1);
+      voted = not-decided (a .v) (a .r) (c .before .before .vote-among .ensures) (c .enum-told .given .1);
       at = λ t. absurd (false≢true t);
       flags = λ t. absurd (false≢true t);
       short = λ t. absurd (false≢true t);
@@ -40,8 +40,8 @@ returns-2 : tie.Need-returns-2
 returns-2 c =
     let a = c .before .before .before .before .before .before .before .before .before .before .before .args in
     let flags = c .before .before .before .before .before .before .before .active-flags .ensures in
-    let w = is-decided (a .v) (a .r) _ (c .before .before .before .before .before .before .before .before .before .before .before .pre) flags _ (c .before .before .before .before .before .before .vote-of .ensures) (c .before .before .before .before .d .given .1) in
-    let clean = clean-is (a .v) (a .r) _ (c .before .before .before .before .before .before .before .before .before .before .before .pre) flags _ (c .before .before .clean-flags .ensures) in
+    let w = is-decided (a .v) (a .r) (c .before .before .before .before .before .before .vote-among .ensures) _ (c .before .before .before .before .d .given .1) in
+    let clean = clean-is (a .v) (a .r) _ _ (c .before .before .before .before .before .before .before .before .before .before .before .pre) flags (c .before .before .clean-flags .ensures) in
     record {
       voted = w .0;
       at = λ t. w .1;
@@ -54,7 +54,7 @@ count-ballot-spec =
     tie.close
     (tie.spec
     active-flags-requires
-    vote-of-requires
+    vote-among-requires
     enum-known-d
     enum-told
     returns

@@ -6,10 +6,10 @@ use Rattle.replay.proofs.forms.find.Statement.{statement}
 use Rattle.replay.proofs.forms.find.Tie as tie
 
 abbrev Inv-loop : tie.InvT-loop
-Inv-loop words word rest₀ i₀ rest i = i ≤ 27
+Inv-loop words word rest₀ i₀ rest i = i ≤ 30
 
 abbrev μ-loop : tie.MeasureT-loop
-μ-loop words word rest₀ i₀ rest i = 27 - i
+μ-loop words word rest₀ i₀ rest i = 30 - i
 
 loop-holds : tie.Need-loop-holds Inv-loop μ-loop
 loop-holds c = search needs

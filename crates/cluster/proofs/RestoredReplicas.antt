@@ -365,19 +365,19 @@ ordinary-by h x p i room r = ⊎-elim below (λ l. inl (kept h x p i l)) (lt-or-
     below : i < h .replicas → (entryAfterCall h x p i ≡ entryBefore x i) ⊎ Reopened h x p i
     below l = ⊎-elim inl
         (λ e. ⊎-elim (λ k. inl (e ∙ k))
-            (λ (s, f, o, k).
-                let u = serverAt (x .records) s in
-                let c = both (activeAt u i) (eqb (markAt u i) (voteMark (h .replicas) u)) (k .is-clean) in
-                inr (record {
-                  server = s;
-                  fate = f;
-                  opens = o;
-                  known = c .0;
-                  at = eqb-true _ _ (c .1);
-                  session = ap (λ (v : Entry). v .session) e ∙ k .session;
-                  ordinary = ap (λ (v : Entry). v .closing) e ∙ k .ordinary;
-                }))
-            (stays h x p i room l (p .call) r))
+        (λ (s, f, o, k).
+        let u = serverAt (x .records) s in
+        let c = both (activeAt u i) (eqb (markAt u i) (voteMark (h .replicas) u)) (k .is-clean) in
+        inr (record {
+          server = s;
+          fate = f;
+          opens = o;
+          known = c .0;
+          at = eqb-true _ _ (c .1);
+          session = ap (λ (v : Entry). v .session) e ∙ k .session;
+          ordinary = ap (λ (v : Entry). v .closing) e ∙ k .ordinary;
+        }))
+        (stays h x p i room l (p .call) r))
         (went h x p i (firstOf (rowsOf h x p)) refl)
 
 pub opened-exactly : OpenedExactly

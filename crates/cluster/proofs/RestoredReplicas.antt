@@ -1,7 +1,8 @@
 -- A RESTORED REPLICA, as laws in the words of document 02, No. 10, about the calls that meet one. "Preparing a restored replica truncates to its low-water mark":
--- what it answers is the lesser of that and its mark (`truncates`). "Copying from it meets refusal 17": while the server is opening, and otherwise 17 is given for
--- what it was given for before (`source`). Its entry is marked by a restore of this replica alone (`marked-by`), and is left so by every call but an open
--- (`ordinary-by`), which makes it ordinary exactly if it finds the replica known and at the mark (`opened-exactly`).
+-- what it answers is the lesser of that and its mark (`truncates`). It "counts as absent in the vote": those that vote, of whom proofs/Decides speaks, are the known
+-- ones but for those that were restored when the session was taken (`absent`). "Copying from it meets refusal 17": while the server is opening, and otherwise 17
+-- is given for what it was given for before (`source`). Its entry is marked by a restore of this replica alone (`marked-by`), and is left so by every call but an
+-- open (`ordinary-by`), which makes it ordinary exactly if it finds the replica known and at the mark (`opened-exactly`).
 -- Why, beside the definitions: the guarantee holds without most of this. A definition that truncated such a replica to 0, copied from it, or never made it
 -- ordinary again would lose no booking.
 -- The statements come first, then their proofs.
@@ -40,7 +41,7 @@ use Rattle.cluster.specs.declared.Phase.{Phase}
 use Rattle.cluster.specs.declared.Phase.the-variants.{Idle, Opening, Open}
 use Rattle.cluster.specs.declared.Call.{Call}
 use Rattle.cluster.specs.declared.Call.the-variants as call
-use Rattle.cluster.specs.State.{State, freshEntry, serverAt, entryAt, markAt, activeAt}
+use Rattle.cluster.specs.State.{State, freshEntry, serverAt, entryAt, markAt, activeAt, votesAt}
 use Rattle.cluster.specs.Replies.{ok, no, silent}
 use Rattle.cluster.specs.Refusals.{Input, row, promiseAbove, noSlot, restoredSource, unfitSource, refusesAt, voteMark, cleanAt, sessionAtTop, sessionDiffers, answered, rowsOf, Verdict, pass, declined, firstOf}
 use Rattle.cluster.specs.Effects.{arrives, raisedSession, closedAt, entryAfter, openedRegister, restoredEntry, prepareEffect, trimEffect, noteEffect, readEffect, exportEffect, appendEffect, takeEffect, openEffect, issueEffect, stopEffect, reassignEffect, restoreEffect}
@@ -63,6 +64,11 @@ Truncates =
     → step h x (making (call.Prepare s i f) content locks given stamp files backup) .reply ≡ ok values
     → values ≡ min (storedSlot m .low) (markOf (h .places) m) ∷ []
 
+-- ---- the vote: "counts as absent in the vote"
+
+abbrev pub Absent : Type 0
+Absent = (v : Server) (i : ℕ) → (votesAt v i ≡ true) ↔ ((activeAt v i ≡ true) × (entryAt (v .entries) i .closing ≡ Restored → ⊥))
+
 -- ---- copy: "copying from it meets refusal 17"
 
 abbrev pub Source : Type 0
@@ -74,7 +80,7 @@ Source =
     → (step h x p .reply ≡ no 17 [])
     ↔ (((v .phase ≡ Opening) × (entryAt (v .entries) a .closing ≡ Restored)) ⊎ (refusesAt (h .places) v (x .media) a ≡ true))
 
--- ---- the entry: "marks the entry restored"; "If it stands at the decided mark at open it counts as clean and the entry is ordinary; otherwise it stays restored"
+-- ---- the entry: "marks the entry restored"
 
 abbrev pub entryAfterCall : Shape → State → Input → ℕ → Entry
 entryAfterCall h x p i = entryAt (step h x p .state .records .register .entries) i
@@ -153,6 +159,16 @@ truncates h x s i f content locks given stamp files backup values size restored 
     let slot : noSlot m ≡ false = rw (heard .0) at (none 18) in
     let promise : promiseAbove (v .session) m ≡ false = rw (heard .0) at (none 19) in
     sym (heard .1) ∙ ap (λ (n : ℕ). n ∷ []) (rw (slot, promise, told, restored) (answered-mark N (v .session) given m size))
+
+-- ================ its vote
+
+pub absent : Absent
+absent v i = go (entryAt (v .entries) i .closing) refl
+  where
+    go : (c : Closing) → entryAt (v .entries) i .closing ≡ c → (votesAt v i ≡ true) ↔ ((activeAt v i ≡ true) × (c ≡ Restored → ⊥))
+    go Unresolved e = rw e (λ k. (both (activeAt v i) true k .0, λ q. let z : _≡_ {A = ℕ} 0 1 = cc in omega arith), λ (a, n). rw a refl)
+    go (Mark d) e = rw e (λ k. (both (activeAt v i) true k .0, λ q. let z : _≡_ {A = ℕ} 0 1 = cc in omega arith), λ (a, n). rw a refl)
+    go Restored e = rw e (λ k. absurd (false≢true (both (activeAt v i) false k .1)), λ (a, n). absurd (n refl))
 
 -- ================ copies from it
 

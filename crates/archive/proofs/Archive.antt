@@ -39,10 +39,10 @@ pub record Wiped (N : ℕ) (m : List ℕ) (k : ℕ) : Type 0 where
 
 abbrev pub Archived : Type 0
 Archived =
-    (h : Shape) (x : State) (s i : ℕ) (f : Fate) (content locks given : List ℕ) (stamp : Stamp) (lent : Files) (values : List ℕ) (N : ℕ) (w : List ℕ)
+    (h : Shape) (x : State) (s i : ℕ) (f : Fate) (content locks given : List ℕ) (stamp : Stamp) (lent : Files) (backup values : List ℕ) (N : ℕ) (w : List ℕ)
     → Bytes (x .media)
     → length (stamp .key) ≡ keySize
-    → (let p : Input = record { call = call.Export s i f; content = content; locks = locks; given = given; stamp = stamp; files = lent } in
+    → (let p : Input = record { call = call.Export s i f; content = content; locks = locks; given = given; stamp = stamp; files = lent; backup = backup } in
     let m = mediumAt (h .places) i (x .media) in
     let k = min (markOf (h .places) m) (serverAt (x .records) s .acked) in
     let files = filesAfter h x p in
@@ -51,9 +51,9 @@ Archived =
 -- ---- its proof
 
 pub archived : Archived
-archived h x s i f content locks given stamp lent values N w b key q e =
+archived h x s i f content locks given stamp lent backup values N w b key q e =
     let m = mediumAt (h .places) i (x .media) in
     let k = min (markOf (h .places) m) (serverAt (x .records) s .acked) in
-    let d = exports h x s i f content locks given stamp lent values q in
+    let d = exports h x s i f content locks given stamp lent backup values q in
     subst (λ (files : Files). Restored k m N w stamp files (imported N w stamp files)) (sym (d .pair))
     (restores (h .places) k m stamp N w (bytes-part (i * mediumSize (h .places)) (mediumSize (h .places)) (x .media) b) key (omega arith) (e .least) (e .most) (e .size) (e .wiped-all) (e .room))

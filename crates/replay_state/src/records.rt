@@ -16,7 +16,7 @@ use cluster::Records;
 use cluster::Register;
 use cluster::Server;
 
-// 0 unresolved, 2 restored, else closed at the mark.
+// 0 unresolved, 2 restored, else (1) closed at the mark.
 fn closing(n: u64, mark: u64) -> Closing {
     match n {
         0 => Closing::Unresolved,

@@ -86,16 +86,28 @@ fn generation(kind: u64) -> usize {
     }
 }
 
+// The field that says what an entry's closing part is. Elsewhere the word's.
+fn closing(kind: u64) -> usize {
+    match kind {
+        13 => 3,
+        15 => 4,
+        _ => 0,
+    }
+}
+
 // shape, R, N, K; register, session, generation; entry, replica, ENTRY: of the register; server, number, phase (0 idle, 1 opening, else
 // open), session, generation, starting, issued and acknowledged mark; handed, server, replica, ENTRY: an entry that take handed over;
-// replica, server, replica, standing (0 out, 1 in, else dropped), recorded mark. ENTRY stands for session, 0 for unresolved, 2 for restored
-// or another number, closing mark.
+// replica, server, replica, standing (0 out, 1 in, else dropped), recorded mark. ENTRY stands for session; 0 unresolved,
+// 1 closed or 2 restored; closing mark.
 fn numbers(line: &[u8], kind: u64, w: &mut Cells) -> bool {
     let k = place(line, kind);
     if ALL <= k {
         return false;
     }
     if 4294967295 < fields::at(line, generation(kind)) {
+        return false;
+    }
+    if 2 < fields::at(line, closing(kind)) {
         return false;
     }
     fields::store(line, first(kind), count(kind), w, k);

@@ -17,14 +17,14 @@ use storage::sizes::{PLACE, SLOTS};
 
 // The cluster between two lines; media and tables lie beside it. Before the first accepted cluster line its shape is none that is
 // accepted.
-#[derive(Drop)]
+#[derive(Clone, Copy)]
 pub struct Held {
     pub shape: Shape,
     pub records: Records,
 }
 
 // What is printed, and the cluster after the line.
-#[derive(Drop)]
+#[derive(Clone, Copy)]
 pub struct Next {
     pub printed: Printed,
     pub held: Held,

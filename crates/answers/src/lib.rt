@@ -1,2 +1,4 @@
 // The answer to a line of the script program, and the cluster after it.
+#![tactic(auto)]
+
 pub mod answer;

@@ -1,4 +1,6 @@
 // Any of the thirteen calls: the list of which the guarantee speaks is a list of these. Only an export writes the two files, and only a restore reads the backup.
+#![tactic(auto)]
+
 ghost use Rattle.std.specs.Prelude.{◌≡◌};
 ghost use Rattle.cluster.specs.Step.{step, files_after};
 ghost use Rattle.checks.specs.Results.{files_of, state_of, beside_of, result_of};

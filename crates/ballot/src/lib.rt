@@ -1,4 +1,6 @@
 // The vote that open counts, once: what 8 and 9 ask, the mark, and the clean replicas.
+#![tactic(auto)]
+
 ghost use Rattle.std.specs.Prelude.{◌≡◌, ◌&&◌, false, ◌≤◌, replicate, eqb};
 ghost use Rattle.base.specs.Below.{up_to};
 ghost use Rattle.quorum.specs.Vote.{flags_of, marks_of};
@@ -11,7 +13,7 @@ use voters::vote_among;
 
 // The vote of an opening server's replicas: whether the mark is decided, and if so the mark, the clean replicas, and whether these are
 // too few.
-#[derive(Drop)]
+#[derive(Clone, Copy)]
 pub struct Ballot {
     pub decided: bool,
     pub mark: u64,

@@ -1,6 +1,8 @@
 // Work to be timed from outside. Each line of standard input names a job and how often it is done; the answer to it is one number that
 // depends on every turn. Setting the job up takes the same time whatever the count, so the time of one turn is found by two counts.
 // What stdout must equal comes from the other implementation (twin/src/jobs.rs), which does the same jobs.
+#![tactic(auto)]
+
 use crate::stage::{MEDIA, TABLES};
 use libc::{STDIN_FILENO, STDOUT_FILENO};
 use text::number::Number;
@@ -62,7 +64,7 @@ fn ended(fits: bool) {
 fn answer_all(input: &[u8], m: &mut [u8; MEDIA], tables: &mut [u64; TABLES]) {
     let mut i = 0;
     while i < input.len() {
-        let j = bytes::scan::find(input, i, input.len(), b'\n');
+        let j = byte_search::find(input, i, input.len(), b'\n');
         ended(answer(&input[i..j], m, tables));
         if j == input.len() {
             return;

@@ -1,4 +1,6 @@
 // The journal for a Rattle host, under one name: the thirteen calls on a cluster, `apply` over any of them, a driver's `recover`, and the converter.
+#![tactic(auto)]
+
 pub use apply::apply;
 pub use converter::convert::convert;
 pub use driver::recover;

@@ -1,5 +1,7 @@
 // What every call is checked for before anything is looked at (refusals 1 to 5; open and issue test 5 themselves), the tests by which a list of refusals is built up, and
 // what a call gives when it is declined, silent or done.
+#![tactic(auto)]
+
 ghost use Rattle.std.specs.Prelude.{◌≡◌, List, [], ◌∷◌, ℕ, ◌<◌, length};
 ghost use Rattle.cluster.specs.Refusals.{allows, cluster_rows, server_rows, phase_rows, replica_rows, first_of, and_then};
 ghost use Rattle.checks.specs.Results.{state_of, declined_of, silent_of, value_of, done_of, changed, unchanged};
@@ -11,14 +13,14 @@ use shape_checks::is_outside;
 use storage::sizes::PLACE;
 
 // Whether a call may go on, or why it is declined.
-#[derive(Drop)]
+#[derive(Clone, Copy)]
 pub enum Check {
     Pass,
     Refuse(Refusal),
 }
 
 // What a call makes of one server: its record, and what is answered.
-#[derive(Drop)]
+#[derive(Clone, Copy)]
 pub struct Change {
     pub server: Server,
     pub answer: Answer,

@@ -1,5 +1,7 @@
 // What the calls of a cluster get and give: shape, register, server records, calls, answers. All are passed by value. There are no functions: those on a
 // server's record are in the crate servers.
+#![tactic(auto)]
+
 use fate::Fate;
 use storage::sizes::{PLACE, Place};
 
@@ -21,7 +23,7 @@ pub const HELD: usize = WINDOW as usize * PLACE;
 pub type Held = [u8; HELD];
 
 // R, the number of replicas; N, the places of each medium; K, the checkpoint interval: so many IDs a session may issue.
-#[derive(Drop)]
+#[derive(Clone, Copy)]
 pub struct Shape {
     pub replicas: u64,
     pub places: u64,
@@ -30,7 +32,7 @@ pub struct Shape {
 
 // The closing part of an entry: none yet, the mark at which a later session closed the replica's log, or that its medium was put back from a backup and no
 // session has counted it since.
-#[derive(Drop)]
+#[derive(Clone, Copy)]
 pub enum Closing {
     Unresolved,
     Mark(u64),
@@ -38,20 +40,20 @@ pub enum Closing {
 }
 
 // What the register holds of a replica: the session that last set it, and the closing part.
-#[derive(Drop)]
+#[derive(Clone, Copy)]
 pub struct Entry {
     pub session: u64,
     pub closing: Closing,
 }
 
-#[derive(Drop)]
+#[derive(Clone, Copy)]
 pub struct Register {
     pub session: u64,
     pub generation: u32,
     pub entries: [Entry; 7],
 }
 
-#[derive(Drop)]
+#[derive(Clone, Copy)]
 pub enum Phase {
     Idle,
     Opening,
@@ -59,7 +61,7 @@ pub enum Phase {
 }
 
 // The phases that a call is for.
-#[derive(Drop)]
+#[derive(Clone, Copy)]
 pub struct Phases {
     pub idle: bool,
     pub opening: bool,
@@ -68,7 +70,7 @@ pub struct Phases {
 
 // A server's record. `entries` are those that take handed over. `known`: the replicas known (opening), the members (open);
 // `dropped`: members that were silent. `marks` are the recorded marks; `held`, the last eight records issued.
-#[derive(Drop)]
+#[derive(Clone, Copy)]
 pub struct Server {
     pub phase: Phase,
     pub session: u64,
@@ -83,14 +85,14 @@ pub struct Server {
     pub held: Held,
 }
 
-#[derive(Drop)]
+#[derive(Clone, Copy)]
 pub struct Records {
     pub register: Register,
     pub servers: [Server; 4],
 }
 
 // What a client asks issue for; data and locks lie beside it.
-#[derive(Drop)]
+#[derive(Clone, Copy)]
 pub struct Request {
     pub mark: u64,
     pub client: u32,
@@ -103,7 +105,7 @@ pub struct Request {
 // The thirteen calls. The first number is the server's, then come replicas (copy: from, to) and read's ID; restore has a replica's alone. What holds bytes
 // lies beside it, since an enum holds no array: data, locks, the given bytes, for an export the time and key of its headers and its two files, and for a
 // restore the medium's bytes.
-#[derive(Drop)]
+#[derive(Clone, Copy)]
 pub enum Call {
     Take(u64, Fate),
     Prepare(u64, u64, Fate),
@@ -122,7 +124,7 @@ pub enum Call {
 
 // Why a call is declined, in the order in which it is checked (document 01's list, and document 02's numbers that join it). UnfitList is a recovery's
 // alone (crate driver). Locked: the lock and its estimate.
-#[derive(Drop)]
+#[derive(Clone, Copy)]
 pub enum Refusal {
     OutsideShape,
     MarkAbovePlaces,
@@ -153,7 +155,7 @@ pub enum Refusal {
 }
 
 // The reply: done with no value, done with one, no answer came, or declined.
-#[derive(Drop)]
+#[derive(Clone, Copy)]
 pub enum Answer {
     Done,
     Value(u64),
@@ -162,7 +164,7 @@ pub enum Answer {
 }
 
 // What a call gives: the records after it, the answer, and the bytes of the place that read answers (zeros for any other reply).
-#[derive(Drop)]
+#[derive(Clone, Copy)]
 pub struct Outcome {
     pub records: Records,
     pub answer: Answer,

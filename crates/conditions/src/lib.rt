@@ -1,4 +1,6 @@
 // Two conditions put together.
+#![tactic(auto)]
+
 ghost use Rattle.std.specs.Prelude.{◌≡◌, ◌&&◌, ◌||◌, not};
 
 pub fn both(a: bool, b: bool) -> bool

@@ -1,4 +1,6 @@
 // What copy is checked for before its message: 4, then 6, 7, 16 and 17.
+#![tactic(auto)]
+
 ghost use Rattle.std.specs.Prelude.{◌≡◌, ◌<◌, length};
 ghost use Rattle.crc32.specs.Tables.{tables_of};
 ghost use Rattle.cluster.specs.Refusals.{not_two, is_opening, refuses_at, restored_source, unfit_source, copy_rows, first_of};

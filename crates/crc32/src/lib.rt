@@ -1,4 +1,6 @@
 // CRC-32 of IEEE 802.3, reflected, eight bytes a step. The loops over four bytes have a fixed count, so the compiler unrolls them.
+#![tactic(auto)]
+
 ghost use Rattle.std.specs.Prelude.{◌≡◌, ◌+◌, ◌*◌, ◌≤◌, length, take, drop};
 ghost use Rattle.std.specs.Int.Bits.{bit_xor};
 ghost use Rattle.octets.specs.Octets.{part, write_at, be_bytes};

@@ -1,5 +1,7 @@
 // A message to a replica is delivered: the replica's medium is cut out of the media, the replica answers an operation, and the server makes of
 // it what it hears.
+#![tactic(auto)]
+
 ghost use Rattle.std.specs.Prelude.{◌≡◌, List, ℕ, ◌+◌, ◌*◌, ◌<◌, ◌≤◌, length};
 ghost use Rattle.crc32.specs.Tables.{tables_of};
 ghost use Rattle.storage.specs.Sizes.{places_limit, medium_size};
@@ -19,7 +21,7 @@ use storage::operation::Operation;
 use storage::sizes::{Place, medium_size};
 
 // Where a replica's medium lies in the media.
-#[derive(Drop)]
+#[derive(Clone, Copy)]
 pub struct Span {
     pub at: usize,
     pub end: usize,

@@ -1,5 +1,7 @@
 // A recovery by a driver, requests No. 9 and, of restored replicas, No. 10: an idle server takes a session, prepares the listed replicas, copies them to one
 // mark and opens.
+#![tactic(auto)]
+
 ghost use Rattle.std.specs.Prelude.{◌≡◌, false, ◌*◌, ◌<◌, ◌≤◌, length};
 ghost use Rattle.storage.specs.Sizes.{place_size};
 ghost use Rattle.cluster.specs.Refusals.{outside, mark_above, pass, first_of};

@@ -1,10 +1,12 @@
 // What becomes of a message to a replica, and of each write that it makes.
+#![tactic(auto)]
+
 ghost use Rattle.std.specs.Prelude.{◌≡◌, ◌+◌, ◌≤◌, length};
 ghost use Rattle.fate.specs.Fates.{leave};
 ghost use Rattle.fate.specs.Numbered.{effect_of};
 
 // What a cut write leaves: what was there, what was to be written, or given bytes.
-#[derive(Drop)]
+#[derive(Clone, Copy)]
 pub enum Left {
     Old,
     New,
@@ -12,7 +14,7 @@ pub enum Left {
 }
 
 // The cut carries the number of its write, from 1, and what that write leaves. The given bytes lie beside the fate.
-#[derive(Drop)]
+#[derive(Clone, Copy)]
 pub enum Fate {
     Answered,
     Lost,

@@ -1,4 +1,6 @@
 // Repeatable load: calls drawn from a seed, for a cluster of r replicas with n places each.
+#![tactic(auto)]
+
 ghost use Rattle.std.specs.Prelude.{◌≡◌, ◌%◌, ◌<◌, ◌≤◌};
 ghost use Rattle.generator.specs.Load.{next as Load·next, draw, fate_of, take_call, prepare_call, copy_call, trim_call, open_call, issue_call, send_call, stop_call, call_of, made_of, bare_of};
 ghost use Rattle.lines.specs.Forms.{request_of};
@@ -7,7 +9,7 @@ use cluster::{Call, Request};
 use fate::Fate;
 
 // What is drawn: a call, the byte of its data if it is an issue, and the state of the last draw.
-#[derive(Drop)]
+#[derive(Clone, Copy)]
 pub struct Drawn {
     pub call: Call,
     pub byte: u8,

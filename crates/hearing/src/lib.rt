@@ -1,4 +1,6 @@
 // What a server makes of what it hears from a replica: an answer, a decline or silence.
+#![tactic(auto)]
+
 ghost use Rattle.std.specs.Prelude.{◌≡◌, ◌&&◌, cond, ◌<◌, ◌≤◌};
 ghost use Rattle.cluster.specs.Refusals.{is_open};
 ghost use Rattle.cluster.specs.Effects.{with_replica, heard, unheard, acknowledge};

@@ -1,4 +1,6 @@
 // Bytes as hexadecimal digits, two a byte: read in either case, written in capitals.
+#![tactic(auto)]
+
 ghost use Rattle.std.specs.Prelude.{◌≡◌, true, ◌*◌, ◌<◌, ◌≤◌, length};
 ghost use Rattle.octets.specs.Octets.{write_at};
 ghost use Rattle.hex.specs.Hex.{digit_of, is_hex, bytes_of, glyph_of, hex_of};

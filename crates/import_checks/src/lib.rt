@@ -1,8 +1,10 @@
 // What import declines: its conditions, and the pair judged by them.
+#![tactic(auto)]
+
 pub mod judge;
 
 // Why an import is declined, in the order in which it is checked.
-#[derive(Drop)]
+#[derive(Clone, Copy)]
 pub enum Reason {
     UnfitSlices,
     Unready,
@@ -10,7 +12,7 @@ pub enum Reason {
     UnfitRecord,
 }
 
-#[derive(Drop)]
+#[derive(Clone, Copy)]
 pub enum Imported {
     Done,
     Declined(Reason),

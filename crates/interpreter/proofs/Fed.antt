@@ -8,7 +8,7 @@ use native.Mathlib.Omega.{arith}
 use lib.ListN.{length, take, drop, length-take, length-append}
 use lib.Seq.{take_all, take_at, take-take, length-take-le}
 use borrow.Author.Tests.{eq-eqb, ne_eqb}
-use Rattle.bytes.specs.Bytes.{index_of, slice}
+use Rattle.byte_search.specs.Bytes.{index_of, slice}
 use Rattle.octets.specs.Octets.{write_at}
 use Rattle.line_input.proofs.Feeding.{Feeding, held_more, at_end, at_newline}
 use Rattle.line_input.proofs.Feeding as any

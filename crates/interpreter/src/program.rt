@@ -16,7 +16,7 @@ use replies::LONGEST;
 
 // The program between two pieces of input: how many bytes of a line are held, how many of the replies are not written yet, the
 // cluster.
-#[derive(Drop)]
+#[derive(Clone, Copy)]
 pub struct State {
     pub n: usize,
     pub o: usize,
@@ -109,7 +109,7 @@ pub fn feed(
     let mut state = s;
     let mut i = 0;
     while i < chunk.len() {
-        let j = bytes::scan::find(chunk, i, chunk.len(), b'\n');
+        let j = byte_search::find(chunk, i, chunk.len(), b'\n');
         state.n = line_input::keep(line, state.n, &chunk[i..j]);
         if j == chunk.len() {
             return state;

@@ -1,5 +1,7 @@
 // issue: a request that is not declined (crate issue_checks) gets the next ID, which goes into the places of its locks. It is shown for any pair of limits
 // (`issue_under`) and used with the client's own.
+#![tactic(auto)]
+
 ghost use Rattle.std.specs.Prelude.{◌≡◌, [], ◌+◌, ◌≤◌, ◌<◌, ◌^◌, length};
 ghost use Rattle.locks.specs.Locks.{marked_all};
 ghost use Rattle.storage.specs.Sizes.{data_limit};

@@ -1,4 +1,6 @@
 // issue's own refusals (10 to 15, with 28 and 23 among them), and 5, which it tests itself.
+#![tactic(auto)]
+
 ghost use Rattle.std.specs.Prelude.{◌≡◌, [], ◌∷◌, ◌<◌, length};
 ghost use Rattle.locks.specs.Locks.{first_held};
 ghost use Rattle.cluster.specs.State.{table_at};

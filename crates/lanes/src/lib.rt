@@ -1,5 +1,7 @@
 // The CRCs of four equal pieces of a slice, side by side. A step waits for the one before it in its lane, but not for those of the other
 // lanes, so that the processor works on several at once.
+#![tactic(auto)]
+
 ghost use Rattle.std.specs.Prelude.{◌≡◌, ◌+◌, ◌*◌, ◌≤◌, ◌<◌, ◌^◌, length};
 ghost use Rattle.octets.specs.Octets.{part};
 ghost use Rattle.crc32.specs.Crc32.{crc_from};

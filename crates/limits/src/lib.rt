@@ -1,9 +1,11 @@
 // What a client may ask for in one request: the pair of limits that belongs to it, and whether a request exceeds a pair.
+#![tactic(auto)]
+
 ghost use Rattle.std.specs.Prelude.{◌≡◌};
 ghost use Rattle.limits.specs.Limits.{limits_of, too_much};
 
 // The most bytes of data, and the most locks.
-#[derive(Drop)]
+#[derive(Clone, Copy)]
 pub struct Limits {
     pub bytes: usize,
     pub locks: usize,

@@ -11,7 +11,7 @@ use lib.Dec.{eqb}
 use lib.ListN.{length, take, drop, length-take, length-drop, length-append, drop_of_length-le}
 use lib.Seq.{take-length, take_all, take_at, take-append-add, length-take-le, drop-drop}
 use Rattle.base.proofs.Tests.{lt_or_le}
-use Rattle.bytes.specs.Bytes.{index_after, index_of, slice}
+use Rattle.byte_search.specs.Bytes.{index_after, index_of, slice}
 use Rattle.octets.specs.Octets.{write_at}
 
 -- what is cut off twice is cut off once

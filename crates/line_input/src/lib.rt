@@ -1,4 +1,6 @@
 // The bytes of a line as they come, in pieces.
+#![tactic(auto)]
+
 ghost use Rattle.std.specs.Prelude.{◌≡◌, ◌+◌, ◌-◌, ◌≤◌, min, length, take};
 ghost use Rattle.octets.specs.Octets.{write_at};
 

@@ -14,7 +14,7 @@ use Rattle.fate.specs.declared.Fate.TheVariants as fate
 use Rattle.cluster.specs.declared.Call.{Call}
 use Rattle.cluster.specs.declared.Call.TheVariants as call
 use Rattle.text.specs.declared.number.Number.TheVariants.{Is}
-use Rattle.bytes.specs.Bytes.{index_of}
+use Rattle.byte_search.specs.Bytes.{index_of}
 use Rattle.text.specs.Text.{first_of, after_of, field_of, field_count, number_of, decimal_of}
 use Rattle.text.proofs.Digits.{a_word}
 use Rattle.hex.specs.Hex.{hex_of}

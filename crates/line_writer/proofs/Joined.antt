@@ -7,7 +7,7 @@ use native.Mathlib.Omega.{arith}
 use lib.ListN.{length, get_or, drop}
 use lib.Seq.{drop-nil, take-append_seam, drop-append-add, get_or-drop}
 use borrow.Author.Tests.{ne_eqb}
-use Rattle.bytes.specs.Bytes.{index_of, index_after}
+use Rattle.byte_search.specs.Bytes.{index_of, index_after}
 use Rattle.text.specs.Text.{tab, first_of, behind_of, after_of, field_of, tabs_in, field_count}
 use Rattle.line_writer.specs.Lines.{behind_tabs, joined}
 

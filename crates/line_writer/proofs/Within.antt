@@ -8,7 +8,7 @@ use native.Mathlib.Numerals.{add-one}
 use native.Mathlib.Omega.{arith}
 use lib.Dec.{eqb}
 use lib.ListN.{length, length-append, length-take}
-use Rattle.bytes.specs.Bytes.{index_of, index_after}
+use Rattle.byte_search.specs.Bytes.{index_of, index_after}
 use Rattle.text.specs.Text.{tab, first_of, behind_of, tabs_in, field_count}
 use Rattle.line_writer.specs.Lines.{behind_tabs, joined}
 

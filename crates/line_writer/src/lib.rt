@@ -1,4 +1,6 @@
 // Lines of the script program, written: the line that asks for a call, with its newline.
+#![tactic(auto)]
+
 ghost use Rattle.std.specs.Prelude.{◌≡◌, [], ◌∷◌, ◌++◌, ◌+◌, ◌*◌, ◌≤◌, length, take};
 ghost use Rattle.octets.specs.Octets.{write_at};
 ghost use Rattle.text.specs.Text.{tab, decimal_of};

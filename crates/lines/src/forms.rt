@@ -20,7 +20,7 @@ pub const LIMIT: usize = 500;
 
 // A line's meaning: no form fits it; a fresh cluster of R and N; a call, with the numbers of its data bytes and of its locks, which
 // lie beside it.
-#[derive(Drop)]
+#[derive(Clone, Copy)]
 pub enum Line {
     Bad,
     Cluster(u64, u64),
@@ -28,21 +28,21 @@ pub enum Line {
 }
 
 // Server and fate.
-#[derive(Drop)]
+#[derive(Clone, Copy)]
 pub enum One {
     Are(u64, Fate),
     Unfit,
 }
 
 // Server, replica and fate.
-#[derive(Drop)]
+#[derive(Clone, Copy)]
 pub enum Two {
     Are(u64, u64, Fate),
     Unfit,
 }
 
 // Server and request.
-#[derive(Drop)]
+#[derive(Clone, Copy)]
 pub enum Head {
     Is(u64, Request),
     Unfit,

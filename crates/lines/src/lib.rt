@@ -1,3 +1,5 @@
 // Lines of the script program: what a line asks for.
+#![tactic(auto)]
+
 pub mod forms;
 pub mod values;

@@ -9,7 +9,7 @@ use text::number::{Number, Word};
 use text::{line, number};
 
 // A fate, if the number is that of one.
-#[derive(Drop)]
+#[derive(Clone, Copy)]
 pub enum FateField {
     Is(Fate),
     Unfit,

@@ -1,5 +1,7 @@
 // The load program: reads lines of seed, R, N and length from standard input and prints the list of calls that each asks for. What the bytes of the input make of
 // the program and of its text is proved (crate load_input); this reads and writes them.
+#![tactic(auto)]
+
 ghost use Rattle.std.specs.Prelude.{◌≡◌, ◌≤◌, length};
 ghost use Rattle.load_input.specs.Input.{Fit, line_room, out_limit};
 
@@ -21,7 +23,7 @@ const ENDED: u8 = 1;
 const FAILED: u8 = 2;
 
 // What a turn leaves.
-#[derive(Drop)]
+#[derive(Clone, Copy)]
 struct Turn {
     status: u8,
     state: State,

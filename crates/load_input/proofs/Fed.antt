@@ -10,7 +10,7 @@ use lib.ListN.{length, take, drop, length-take, length-append}
 use lib.Seq.{take_all, take_at, length-take-le}
 use borrow.Author.Tests.{eq-eqb, eqb-true, leb-true, leb-false}
 use Rattle.base.proofs.Tests.{both}
-use Rattle.bytes.specs.Bytes.{index_of, slice}
+use Rattle.byte_search.specs.Bytes.{index_of, slice}
 use Rattle.octets.specs.Octets.{write_at}
 use Rattle.line_input.proofs.Feeding.{Feeding, held_more, at_end, at_newline}
 use Rattle.line_writer.specs.Lines.{newline}

@@ -10,7 +10,7 @@ const ROOM: usize = 95;
 
 // How far the program has come in a piece of input: n bytes of a line are held, a list is being printed, the bytes of the piece below i are taken, and o bytes
 // of text are not written yet.
-#[derive(Drop)]
+#[derive(Clone, Copy)]
 pub struct State {
     pub n: usize,
     pub rest: Rest,
@@ -95,7 +95,7 @@ fn next_line(s: State, chunk: &[u8], line: &mut [u8], out: &mut [u8]) -> State
     ensures chunk_after { fed (program_of result.n result.rest line.new result.o out.new) (drop result.i chunk.now) ≡ fed (program_of s.n s.rest line.old s.o out.old) (drop s.i chunk.now) }
 {
     let i = s.i;
-    let j = bytes::scan::find(chunk, i, chunk.len(), b'\n');
+    let j = byte_search::find(chunk, i, chunk.len(), b'\n');
     let mut next = s;
     next.n = line_input::keep(line, s.n, &chunk[i..j]);
     if j == chunk.len() {

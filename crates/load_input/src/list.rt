@@ -14,7 +14,7 @@ use text::number::Number;
 const LONGEST: u64 = 10000;
 
 // What a line asks for: no form fits it; a number is outside its values; a list of seed, R, N and length.
-#[derive(Drop)]
+#[derive(Clone, Copy)]
 pub enum Asked {
     Bad,
     Outside,
@@ -22,7 +22,7 @@ pub enum Asked {
 }
 
 // What is left of a list: so many calls, drawn behind the state.
-#[derive(Drop)]
+#[derive(Clone, Copy)]
 pub struct Rest {
     pub replicas: u64,
     pub places: u64,
@@ -31,7 +31,7 @@ pub struct Rest {
 }
 
 // What is left of a list once a part of it is text that ends at o.
-#[derive(Drop)]
+#[derive(Clone, Copy)]
 pub struct Begun {
     pub rest: Rest,
     pub o: usize,

@@ -1,9 +1,11 @@
 // Locks of requests: each has three places in a server's table of 1,024 marks, the lent tables' part of that server.
+#![tactic(auto)]
+
 ghost use Rattle.std.specs.Prelude.{◌≡◌, List, ◌++◌, ℕ, ◌+◌, ◌≤◌, ◌<◌, min, length, replicate, drop};
 ghost use Rattle.locks.specs.Locks.{place_of, estimate_of, marked_at, marked_all, conflict, first_held};
 
 // A request's locks against a table. Held: the first that refuses it, and that lock's estimate.
-#[derive(Drop)]
+#[derive(Clone, Copy)]
 pub enum LockTest {
     Free,
     Held(u64, u64),

@@ -1,4 +1,6 @@
 // Refusal 2, of every call: the marks in the register and in the server records.
+#![tactic(auto)]
+
 ghost use Rattle.std.specs.Prelude.{◌≡◌, ◌≤◌};
 ghost use Rattle.cluster.specs.Refusals.{closing_fits, entries_fit, server_fits, mark_above};
 ghost use Rattle.mark_checks.specs.Below.{below_fits};

@@ -1,4 +1,6 @@
 // A medium's places: read, written and wiped.
+#![tactic(auto)]
+
 ghost use Rattle.std.specs.Prelude.{◌≡◌, ◌+◌, ◌-◌, ◌≤◌, ◌<◌, ◌^◌, length};
 ghost use Rattle.fate.specs.Fates.{leave};
 ghost use Rattle.fate.specs.Numbered.{effect_of, after_from};

@@ -1,5 +1,7 @@
 // Refusals 6 and 7, of a call that sends a replica a message: one that is cut at write 0, or that leaves given bytes which pass as a slot or a
 // place; and a replica that may not be used.
+#![tactic(auto)]
+
 ghost use Rattle.std.specs.Prelude.{◌≡◌, ◌<◌};
 ghost use Rattle.crc32.specs.Tables.{tables_of};
 ghost use Rattle.cluster.specs.State.{active_at};

@@ -1,4 +1,6 @@
 // Bytes at an offset of a slice, and the big-endian numbers that they stand for.
+#![tactic(auto)]
+
 ghost use Rattle.std.specs.Prelude.{◌≡◌, ◌&&◌, ◌+◌, ◌≤◌, ◌<◌, ◌^◌, eqb, length, replicate};
 ghost use Rattle.octets.specs.Octets.{write_at, be_of, be_bytes, all_zero};
 

@@ -1,4 +1,6 @@
 // A place of the old layout, which is read only: its validity, and its record written in the new layout.
+#![tactic(auto)]
+
 ghost use Rattle.std.specs.Prelude.{◌≡◌, ◌≤◌, length};
 ghost use Rattle.crc32.specs.Tables.{tables_of};
 ghost use Rattle.storage.specs.Sizes.{place_size, data_limit};

@@ -1,4 +1,6 @@
 // What open does, once its vote is counted: to the register, the server's record and its lock table.
+#![tactic(auto)]
+
 ghost use Rattle.std.specs.Prelude.{◌≡◌, ◌&&◌, not, false, cond, List, ℕ, ◌<◌, ◌≤◌, length, replicate};
 ghost use Rattle.base.specs.Below.{up_to};
 ghost use Rattle.quorum.specs.Vote.{flags_of};

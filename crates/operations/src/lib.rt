@@ -1,5 +1,7 @@
 // A replica's four operations on its medium, each under a fate. What the replica has read before (its current slot, what that holds, its
 // mark) comes in as arguments, so that nothing is searched for twice.
+#![tactic(auto)]
+
 ghost use Rattle.std.specs.Prelude.{◌≡◌, ◌+◌, ◌≤◌, ◌<◌, length};
 ghost use Rattle.crc32.specs.Tables.{tables_of};
 ghost use Rattle.fate.specs.Fates.{after, leave};

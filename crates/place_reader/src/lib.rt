@@ -1,4 +1,6 @@
 // A place of the log judged and read: its validity, and what its record holds. The definitions are storage's.
+#![tactic(auto)]
+
 ghost use Rattle.std.specs.Prelude.{◌≡◌, true, ◌&&◌, ◌+◌, ◌≤◌, length};
 ghost use Rattle.octets.specs.Octets.{part, be_of};
 ghost use Rattle.crc32.specs.Crc32.{checked};

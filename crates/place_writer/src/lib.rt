@@ -1,4 +1,6 @@
 // A place of the log written: the record of fields and data. The definitions are storage's.
+#![tactic(auto)]
+
 ghost use Rattle.std.specs.Prelude.{◌≡◌, ◌≤◌, length, take, drop};
 ghost use Rattle.octets.specs.Octets.{write_at, fields_of, offset_of};
 ghost use Rattle.crc32.specs.Tables.{tables_of};

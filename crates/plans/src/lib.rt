@@ -1,4 +1,6 @@
 // What each call has its replica do, or why it is declined before the message: a call is its rows and its operation.
+#![tactic(auto)]
+
 ghost use Rattle.std.specs.Prelude.{◌≡◌, ◌<◌, ◌≤◌};
 ghost use Rattle.crc32.specs.Tables.{tables_of};
 ghost use Rattle.cluster.specs.State.{mark_at};
@@ -20,7 +22,7 @@ use storage::sizes::Place;
 use voters::vote_among;
 
 // The calls that name one replica and may write its medium.
-#[derive(Drop)]
+#[derive(Clone, Copy)]
 pub enum Kind {
     Prepare,
     Trim,
@@ -28,7 +30,7 @@ pub enum Kind {
     Send,
 }
 
-#[derive(Drop)]
+#[derive(Clone, Copy)]
 pub enum Plan {
     Do(Operation),
     Refuse(Refusal),

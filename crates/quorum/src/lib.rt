@@ -1,10 +1,12 @@
 // The vote of a session's replicas: the majority mark, and whether it is decided. Flags and marks are those of up to seven replicas.
+#![tactic(auto)]
+
 ghost use Rattle.std.specs.Prelude.{◌≡◌, cond, ◌&&◌, ◌≤◌, suc, max, leb};
 ghost use Rattle.base.specs.Below.{bit, count};
 ghost use Rattle.quorum.specs.Vote.{flags_of, marks_of, quorum, reach, majority_mark, vote_of};
 
 // Undecided: marks of the absent replicas could still make it another.
-#[derive(Drop)]
+#[derive(Clone, Copy)]
 pub enum Vote {
     Undecided,
     Decided(u64),

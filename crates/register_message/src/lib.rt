@@ -1,4 +1,6 @@
 // A message to the register: what its fate makes of it, and what a call makes of the register and of one server.
+#![tactic(auto)]
+
 ghost use Rattle.std.specs.Prelude.{◌≡◌, ◌<◌};
 ghost use Rattle.cluster.specs.Refusals.{is_cut, answered};
 ghost use Rattle.cluster.specs.Effects.{arrives};
@@ -9,7 +11,7 @@ use fate::Fate;
 use storage::sizes::PLACE;
 
 // The register and one server's record after a call, and what is answered.
-#[derive(Drop)]
+#[derive(Clone, Copy)]
 pub struct Registered {
     pub register: Register,
     pub server: Server,

@@ -9,7 +9,7 @@ use run_lines::fates;
 use run_lines::fates::FateField;
 
 // The call, if the line fits one.
-#[derive(Drop)]
+#[derive(Clone, Copy)]
 pub enum Asked {
     Is(Call),
     Unfit,

@@ -2,6 +2,8 @@
 // prints nothing, or makes a call, whose reply and check sums of all state are a line of standard output; `bad` is printed where a
 // line fits no form. The lines, their forms and the output that stdout must equal come from the other implementation
 // (twin/src/replay.rs; its replay writes both files).
+#![tactic(auto)]
+
 ghost use Rattle.std.specs.Prelude.{◌+◌, ◌≤◌, length};
 
 use libc::STDIN_FILENO;

@@ -1,4 +1,6 @@
 // A replica's answer to an operation: what it finds on its medium, whether it declines, what it writes and what the server hears.
+#![tactic(auto)]
+
 ghost use Rattle.std.specs.Prelude.{◌≡◌, ◌<◌, length};
 ghost use Rattle.crc32.specs.Tables.{tables_of};
 ghost use Rattle.storage.specs.Sizes.{place_size};

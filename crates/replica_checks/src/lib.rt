@@ -1,4 +1,6 @@
 // Refusals 18 to 20: what a replica that was read says to a message, and what a server may hear.
+#![tactic(auto)]
+
 ghost use Rattle.std.specs.Prelude.{◌≡◌, ◌||◌};
 ghost use Rattle.cluster.specs.Refusals.{is_neither};
 ghost use Rattle.replica_checks.specs.Says.{says, lacks_slot, read_promise, read_mark, read_declines};
@@ -8,7 +10,7 @@ use storage::operation::Read;
 use storage::slot::Current;
 
 // What a server hears of a message: nothing, why the replica declines, or the replica's mark after it.
-#[derive(Drop)]
+#[derive(Clone, Copy)]
 pub enum Heard {
     Silent,
     Declined(Refusal),
@@ -16,7 +18,7 @@ pub enum Heard {
 }
 
 // Whether a replica declines, and by which number.
-#[derive(Drop)]
+#[derive(Clone, Copy)]
 pub struct Judgement {
     pub declines: bool,
     pub heard: Heard,

@@ -1,4 +1,6 @@
 // The text of a reply of the script program.
+#![tactic(auto)]
+
 ghost use Rattle.std.specs.Prelude.{◌≡◌, ◌≤◌, [], ◌∷◌, ◌++◌, length};
 ghost use Rattle.octets.specs.Octets.{write_at};
 ghost use Rattle.cluster.specs.Replies.{number_of, reply_of};
@@ -9,7 +11,7 @@ use cluster::{Answer, Refusal};
 use text::number;
 
 // What is printed for a line: that it is bad, or the answer to it.
-#[derive(Drop)]
+#[derive(Clone, Copy)]
 pub enum Printed {
     Bad,
     Reply(Answer),

@@ -1,4 +1,6 @@
 // restore: bytes that a replica's medium held earlier are written over it, under the register's raised session as promise, and the entry is marked restored.
+#![tactic(auto)]
+
 ghost use Rattle.std.specs.Prelude.{◌≡◌};
 ghost use Rattle.cluster.specs.Step.{step};
 ghost use Rattle.checks.specs.Results.{state_of, restore_of, result_of};

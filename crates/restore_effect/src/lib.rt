@@ -1,4 +1,6 @@
 // What a restore does that is not declined: to the register and to the medium.
+#![tactic(auto)]
+
 ghost use Rattle.std.specs.Prelude.{◌≡◌, List, ℕ, ◌≤◌, length};
 ghost use Rattle.crc32.specs.Tables.{tables_of};
 ghost use Rattle.storage.specs.Sizes.{slots_size, medium_size};

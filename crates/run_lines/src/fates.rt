@@ -6,7 +6,7 @@ use text::number::Number;
 use text::{line, number};
 
 // The fate, if the fields are those of one.
-#[derive(Drop)]
+#[derive(Clone, Copy)]
 pub enum FateField {
     Is(Fate),
     Unfit,

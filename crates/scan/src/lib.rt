@@ -1,4 +1,6 @@
 // How far a medium's log reaches: the scan for its mark.
+#![tactic(auto)]
+
 pub mod groups;
 
 ghost use Rattle.std.specs.Prelude.{◌≡◌, ◌≤◌, length};

@@ -1,5 +1,7 @@
 // The script program: reads lines of calls from standard input and writes a reply to each. What the bytes of the input make of the
 // program and of its replies is proved (crate interpreter); this reads and writes them.
+#![tactic(auto)]
+
 ghost use Rattle.std.specs.Prelude.{◌≡◌, ◌≤◌, length};
 ghost use Rattle.crc32.specs.Tables.{tables_of};
 ghost use Rattle.answers.specs.Sizes.{line_room, Lent};
@@ -31,7 +33,7 @@ const ENDED: u8 = 1;
 const FAILED: u8 = 2;
 
 // What a piece of input leaves.
-#[derive(Drop)]
+#[derive(Clone, Copy)]
 struct Turn {
     status: u8,
     state: State,

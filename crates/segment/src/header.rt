@@ -29,7 +29,7 @@ pub const RESERVED_AT: usize = FIRST_AT + LONG;
 pub const HEADER: usize = RESERVED_AT + RESERVED;
 
 // What is handed in for a header: the creation time and the cluster key.
-#[derive(Drop)]
+#[derive(Clone, Copy)]
 pub struct Stamp {
     pub time: u64,
     pub key: [u8; KEY],

@@ -1,4 +1,6 @@
 // A record of a data file judged: its length field, its size, and whether it is the record of its number.
+#![tactic(auto)]
+
 ghost use Rattle.std.specs.Prelude.{◌≡◌, cond, ◌+◌, ◌≤◌, length, drop};
 ghost use Rattle.crc32.specs.Tables.{tables_of};
 ghost use Rattle.storage.specs.Layout.{data_offset};

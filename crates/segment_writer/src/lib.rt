@@ -1,5 +1,7 @@
 // The two files of a log: their lengths, and the files written. Each place is reached by a sum. The lengths are a pass of their own over the length fields:
 // files of other lengths stay as they were.
+#![tactic(auto)]
+
 ghost use Rattle.std.specs.Prelude.{◌≡◌, ◌≤◌, length};
 ghost use Rattle.octets.specs.Octets.{write_at};
 ghost use Rattle.crc32.specs.Tables.{tables_of};

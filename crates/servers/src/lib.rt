@@ -1,4 +1,6 @@
 // A server's record: an idle one, one of the four replaced, and the records that a server holds.
+#![tactic(auto)]
+
 pub mod held;
 
 ghost use Rattle.std.specs.Prelude.{◌≡◌, ◌<◌};

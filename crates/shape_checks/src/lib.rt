@@ -1,4 +1,6 @@
 // Refusal 1, of every call: the numbers beside the records, and the lengths of the lent slices.
+#![tactic(auto)]
+
 ghost use Rattle.std.specs.Prelude.{◌≡◌, ◌&&◌, leb};
 ghost use Rattle.cluster.specs.Refusals.{replicas_fit, outside};
 

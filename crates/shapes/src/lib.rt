@@ -1,4 +1,6 @@
 // The clusters that the programs accept.
+#![tactic(auto)]
+
 ghost use Rattle.std.specs.Prelude.{◌≡◌};
 ghost use Rattle.shapes.specs.Shapes.{accepted};
 

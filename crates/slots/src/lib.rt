@@ -1,4 +1,6 @@
 // The two slots of a medium: which is current, what it holds, and a slot's bytes. The definitions are storage's.
+#![tactic(auto)]
+
 ghost use Rattle.std.specs.Prelude.{◌≡◌, ◌≤◌, length};
 ghost use Rattle.crc32.specs.Tables.{tables_of};
 ghost use Rattle.storage.specs.Sizes.{slot_size, slots_size};

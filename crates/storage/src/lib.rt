@@ -1,3 +1,5 @@
+#![tactic(auto)]
+
 pub mod operation;
 pub mod place;
 pub mod sizes;

@@ -2,7 +2,7 @@
 use crate::slot::{Current, Slot};
 
 // What prepare leaves of a log: the whole of it, the places up to a mark, or those up to the replica's own low-water mark.
-#[derive(Drop)]
+#[derive(Clone, Copy)]
 pub enum Target {
     Whole,
     Mark(u64),
@@ -11,7 +11,7 @@ pub enum Target {
 
 // A replica's operations. Prepare: the session that it promises, and what it truncates to; Trim: the mark that it truncates to; Note: the
 // low-water marks; Append: the mark behind which a record is written, whose bytes lie beside it.
-#[derive(Drop)]
+#[derive(Clone, Copy)]
 pub enum Operation {
     Prepare(u64, Target),
     Trim(u64),
@@ -20,7 +20,7 @@ pub enum Operation {
 }
 
 // What a replica reads of its medium before it acts: its places, its current slot, what that holds, and its mark.
-#[derive(Drop)]
+#[derive(Clone, Copy)]
 pub struct Read {
     pub places: usize,
     pub current: Current,

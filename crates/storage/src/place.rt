@@ -1,5 +1,5 @@
 // The numbers of a place's record; its data lie beside them. The crates `place_reader` and `place_writer` read and write it.
-#[derive(Drop)]
+#[derive(Clone, Copy)]
 pub struct Fields {
     pub id: u64,
     pub client: u32,

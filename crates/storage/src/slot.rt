@@ -1,7 +1,7 @@
 // The two slots of a medium, as values. The crate `slots` reads and writes their bytes.
 
 // What a slot holds: the promised session, the low-water mark and the local low-water mark.
-#[derive(Drop)]
+#[derive(Clone, Copy)]
 pub struct Slot {
     pub promise: u64,
     pub low: u64,
@@ -9,7 +9,7 @@ pub struct Slot {
 }
 
 // Which of the two slots is current.
-#[derive(Drop)]
+#[derive(Clone, Copy)]
 pub enum Current {
     First,
     Second,

@@ -1,4 +1,6 @@
 // What take does: the register's session is raised, and an idle server gets it, with the generation and the entries.
+#![tactic(auto)]
+
 ghost use Rattle.std.specs.Prelude.{◌≡◌, ◌&&◌, not, cond, List, ℕ};
 ghost use Rattle.cluster.specs.declared.Records.{Records};
 ghost use Rattle.cluster.specs.Refusals.{session_at_top};

@@ -11,7 +11,7 @@ use lib.Dec.{eqb}
 use lib.ListN.{length, get_or, take, drop, length-take, length-drop, drop_of_length-le}
 use lib.Seq.{take_all, take-length, drop-cons}
 use borrow.Author.Tests.{eq-eqb, ne_eqb}
-use Rattle.bytes.specs.Bytes.{index_of, slice}
+use Rattle.byte_search.specs.Bytes.{index_of, slice}
 use Rattle.text.specs.Text.{tab, first_of, behind_of, after_of, field_of, tabs_in, field_count}
 
 -- a search of the whole line

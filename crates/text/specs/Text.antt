@@ -2,7 +2,7 @@
 -- "Numbers are in base ten".
 -- Assumes nothing.
 use Rattle.std.specs.Prelude.{List, [], ◌∷◌, ◌++◌, cond, ◌&&◌, ℕ, zero, suc, ◌+◌, ◌-◌, ◌*◌, ◌/◌, ◌%◌, ◌^◌, take, drop, eqb, ltb, leb}
-use Rattle.bytes.specs.Bytes.{index_of}
+use Rattle.byte_search.specs.Bytes.{index_of}
 use Rattle.text.specs.declared.number.Number.{Number}
 use Rattle.text.specs.declared.number.Number.TheVariants.{Is, Unfit}
 use Rattle.text.specs.declared.number.Word.{Word}

@@ -8,7 +8,7 @@ const TAB: u8 = b'\t';
 pub fn first(s: &[u8]) -> &[u8]
     ensures { result.now ≡ first_of s.now }
 {
-    let i = bytes::scan::find(s, 0, s.len(), TAB);
+    let i = byte_search::find(s, 0, s.len(), TAB);
     &s[0..i]
 }
 
@@ -16,7 +16,7 @@ pub fn first(s: &[u8]) -> &[u8]
 pub fn behind(s: &[u8]) -> &[u8]
     ensures { result.now ≡ behind_of s.now }
 {
-    let i = bytes::scan::find(s, 0, s.len(), TAB);
+    let i = byte_search::find(s, 0, s.len(), TAB);
     if i == s.len() {
         return &s[i..];
     }

@@ -4,14 +4,14 @@ ghost use Rattle.octets.specs.Octets.{write_at};
 ghost use Rattle.text.specs.Text.{with_digit, number_of, word_of, decimal_of};
 
 // A number of 64 bits, if the digits are those of one.
-#[derive(Drop)]
+#[derive(Clone, Copy)]
 pub enum Number {
     Is(u64),
     Unfit,
 }
 
 // The same for 32 bits.
-#[derive(Drop)]
+#[derive(Clone, Copy)]
 pub enum Word {
     Is(u32),
     Unfit,

@@ -6,7 +6,7 @@ use crate::{conversions, media, operation, records, segments};
 use crc32::Tables;
 use text::line;
 
-#[derive(Drop)]
+#[derive(Clone, Copy)]
 enum Command {
     Crc,
     Place,
@@ -21,7 +21,7 @@ enum Command {
 }
 
 // A word's command, and how many fields its lines have.
-#[derive(Drop)]
+#[derive(Clone, Copy)]
 struct Form(Command, usize);
 
 fn form_of(word: &[u8]) -> Form {

@@ -1,6 +1,8 @@
 // Runs stored vectors through the proved code of crc32, fate, the storage layer, segment, segment_import and converter. Standard input has a vector a line; the answer to each
 // is a line of standard output, or `bad` where a line has the form of none. The vectors, the form of each line and the answers
 // that stdout must equal come from the other implementation (twin/src/vectors.rs; the twin's storage_vectors writes both files).
+#![tactic(auto)]
+
 ghost use Rattle.std.specs.Prelude.{◌≡◌};
 ghost use Rattle.crc32.specs.Tables.{tables_of};
 

@@ -8,7 +8,7 @@ use text::number::Number;
 use text::{line, number};
 
 // The commands on a medium; the first only reads it.
-#[derive(Drop)]
+#[derive(Clone, Copy)]
 pub enum Command {
     Medium,
     Prepare,
@@ -18,7 +18,7 @@ pub enum Command {
 }
 
 // A replica's operation, if the fields have one.
-#[derive(Drop)]
+#[derive(Clone, Copy)]
 pub enum Asked {
     Is(Operation),
     Unfit,

@@ -116,7 +116,7 @@ pub fn held(x: Slot) {
 }
 
 // A record's numbers, if their fields have them.
-#[derive(Drop)]
+#[derive(Clone, Copy)]
 enum Numbers {
     Are(Fields),
     Unfit,

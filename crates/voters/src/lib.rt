@@ -1,4 +1,6 @@
 // The vote of the replicas that a server knows: what refusal 8 asks, and the mark. Restored ones are absent in it.
+#![tactic(auto)]
+
 ghost use Rattle.std.specs.Prelude.{◌≡◌, ◌&&◌, not, false, ◌≤◌, ◌<◌, get_or, replicate};
 ghost use Rattle.base.specs.Below.{up_to};
 ghost use Rattle.quorum.specs.Vote.{vote_of};

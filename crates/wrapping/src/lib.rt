@@ -1,4 +1,6 @@
 // Products of 64-bit numbers that wrap: `std::num` wraps sums and differences alone.
+#![tactic(auto)]
+
 ghost use Rattle.std.specs.Prelude.{◌≡◌, ◌+◌, ◌*◌, ◌%◌, ◌^◌};
 
 // acc and, if b is odd, a too, modulo 2^64.

@@ -1,0 +1,5 @@
+-- `checks::settle`: `put_server` ensures the records; answer and bytes are the definition's.
+use Rattle.checks.proofs.settle.Goals as goal
+
+pub returns : goal.returns
+returns c = rw c.put_server.ensures

@@ -1,0 +1,33 @@
+-- `crc32::look_up`. The invariant: look-ups made and still to make are all; what is left of x has a byte for each turn left.
+-- Assumes nothing.
+use mathlib.Core.Path.{◌≡◌, refl, sym, ap, ◌∙◌}
+use Prim.Native.Nat.{◌+◌, ◌-◌, ◌<◌}
+use lib.Bits.{bit_xor}
+use Rattle.crc32.proofs.Words.{four_out, look_next, look_end, bytes_left, bytes_all}
+use native.Mathlib.Omega.{arith}
+use borrow.Author.Rules.{rules}
+use Rattle.crc32.proofs.look_up.Goals as goal
+
+pub loop-k-init : goal.loop-k-init
+loop-k-init c = (search rules, search rules, bytes_all c.args.width c.args.x c.ranges.x.fits, refl)
+
+pub loop-k-preserved : goal.loop-k-preserved
+loop-k-preserved c =
+    let a = c.args in
+    let l = c.loop-k in
+    let g : 0 < l.k + 4 - a.width = omega arith in
+    let n : l.k + 4 - a.width - 1 ≡ l.k - 1 + 4 - a.width = omega arith in (
+      search rules,
+      search rules,
+      rw (← n) (bytes_left (l.k + 4 - a.width) l.y g l.invariant.2),
+      l.invariant.3 ∙ look_next a.t.now l.r l.k l.y (omega arith),
+    )
+
+pub returns : goal.returns
+returns c =
+    let s = c in
+    let l = c.loop-k in
+    let z : l.k + 4 - s.args.width ≡ 0 = omega arith in
+    sym (look_end s.args.t.now l.r l.k l.y s.requires.0 (omega arith) (rw z at l.invariant.2))
+    ∙ sym l.invariant.3
+    ∙ ap (bit_xor s.args.before) (four_out s.args.t.now s.args.width s.args.x s.requires.0 s.requires.1.0 s.requires.1.1 s.ranges.x.fits)

@@ -1,0 +1,39 @@
+-- `after_take`: prepares, copies and open one after another (`after_take_is`); the mark is at most N, so that the calls can be counted (proofs/Stages).
+use Prim.Native.Nat.{◌+◌, ◌≤◌}
+use lib.ListN.{length}
+use Rattle.recovery.proofs.Played.{after_take_is}
+use Rattle.recovery.specs.Asked.{asked_of, trail_of}
+use Rattle.driver.proofs.Stages.{count_prepared, mark_prepared, count_copied}
+use native.Mathlib.Omega.{arith}
+use Rattle.driver.proofs.after_take.Goals as goal
+
+pub catch_up-c-requires : goal.catch_up-c-requires
+catch_up-c-requires c =
+    let a = c.args in
+    let p = c.requires in
+    let d = asked_of a.server a.listed.now a.fates.now a.given.now in
+    let t = trail_of a.g a.media.now a.tables.now in
+    let e = c.prepare_all-p.ensures in
+    let n = p.server_bound in
+    let few : a.g.calls + length a.listed.now ≤ 8 = omega (arith, p.calls_bound, n.2.few) in record {
+    given_len = p.given_len;
+    server_bound = (n.0, n.2);
+    calls_bound = (count_prepared a.shape d t e few, mark_prepared a.shape d t e few (record { inside = p.tables_value.0; fits = p.tables_value.1 }) n.0 n.1);
+  }
+
+pub open_session-requires : goal.open_session-requires
+open_session-requires c =
+    let u = c in
+    let a = u.before.before.before.before.before.before.before.before.before.before.before.before.before.args in
+    let p = u.before.before.before.before.before.before.before.before.before.before.before.before.before.requires in
+    let d = asked_of a.server a.listed.now a.fates.now a.given.now in
+    let t = trail_of a.g a.media.now a.tables.now in
+    let n = p.1.1.0 in
+    let few : a.g.calls + length a.listed.now ≤ 8 = omega (arith, p.1.1.1, n.2.few) in
+    count_copied a.shape d t u.before.before.before.before.before.prepare-all.ensures few (record { inside = p.0.0; fits = p.0.1 }) n.0 n.1 u.catch-up.ensures n.2.few
+
+pub returns : goal.returns
+returns c =
+    let u = c in
+    let a = u.before.before.before.before.before.before.before.before.before.before.before.before.before.args in
+    after_take_is a.shape _ (trail_of a.g a.media.now a.tables.now) u.before.before.before.before.before.prepare-all.ensures u.catch-up.ensures (c.open_session.ensures a.listed.now a.given.now)

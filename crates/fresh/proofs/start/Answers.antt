@@ -1,0 +1,13 @@
+-- `start`: records, media and tables, each fresh.
+-- Assumes nothing.
+use Rattle.cluster.specs.State.{fresh}
+use borrow.Author.Rules.{rules}
+use Rattle.fresh.proofs.start.Goals as goal
+
+records-requires : tie.Need-records-requires
+
+records-requires c κs = search rules
+
+pub returns : goal.returns
+unfolding fresh
+returns c = rw (c.records.ensures, c.media.ensures, c.clear.ensures, c.requires.tables_len)

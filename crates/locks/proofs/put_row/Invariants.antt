@@ -1,0 +1,12 @@
+-- `locks::put_row` meets its contract. The loop's invariant: the places below at + i hold the mark, and the others are as they were.
+-- Assumes nothing.
+use Prim.Native.Nat.{◌-◌, ◌≤◌}
+use mathlib.Core.Path.{◌≡◌}
+use lib.ListN.{length}
+use Rattle.locks.proofs.put_row.Given as goal
+
+abbrev pub invariant-loop-i : goal.invariant-loop-i
+invariant-loop-i l = (l.i ≤ 256) × (length l.table ≡ length l.initial.table) × Filled l.at 256 l.i l.row l.initial.table l.table
+
+abbrev pub decreases-loop-i : goal.decreases-loop-i
+decreases-loop-i l = 256 - l.i

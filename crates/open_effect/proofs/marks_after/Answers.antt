@@ -1,0 +1,18 @@
+-- `marks_after`. The invariant: the marks below i are d where the flag is set and 0 elsewhere, and the others are 0.
+-- Assumes nothing.
+use mathlib.Core.Path.{ap, ◌∙◌}
+use Rattle.base.specs.Below.{up_to}
+use Rattle.base.proofs.Below.{up_to_step}
+use native.Mathlib.Omega.{arith}
+use borrow.Author.Rules.{rules}
+use Rattle.open_effect.proofs.marks_after.Goals as goal
+
+pub loop-i-init : goal.loop-i-init
+unfolding up_to
+loop-i-init c = search rules
+
+pub loop-i-preserved : goal.loop-i-preserved
+loop-i-preserved c = (search rules, up_to_step _ _ _ _ _ c.loop-i.invariant.1 c.mark_after.ensures)
+
+pub returns : goal.returns
+returns c = c.loop-i.invariant.1 ∙ ap (up_to _ _) (omega arith)

@@ -10,11 +10,3 @@ pub fn number(field: &[u8]) -> Option<u64> {
         value.checked_mul(10)?.checked_add(digit)
     })
 }
-
-/// Appends the number without leading zeros.
-pub fn append(text: &mut Vec<u8>, value: u64) {
-    if value >= 10 {
-        append(text, value / 10);
-    }
-    text.push(b'0' + (value % 10) as u8);
-}

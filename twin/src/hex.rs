@@ -3,12 +3,11 @@
 const DIGITS: &[u8; 16] = b"0123456789ABCDEF";
 
 pub fn encode(bytes: &[u8]) -> String {
-    bytes.iter().flat_map(|&byte| digits(byte)).map(char::from).collect()
-}
-
-/// The two digits of a byte.
-pub fn digits(byte: u8) -> [u8; 2] {
-    [byte >> 4, byte & 15].map(|digit| DIGITS[usize::from(digit)])
+    bytes
+        .iter()
+        .flat_map(|byte| [byte >> 4, byte & 15])
+        .map(|digit| char::from(DIGITS[usize::from(digit)]))
+        .collect()
 }
 
 /// `None` for an odd number of digits or another character among them.

@@ -4,7 +4,6 @@
 pub mod crc;
 pub mod decimal;
 pub mod hex;
-pub mod lines;
 pub mod random;
 
 pub mod medium;
@@ -24,8 +23,6 @@ pub mod cluster;
 pub mod exported;
 
 pub mod script;
-
-pub mod load;
 
 pub mod vectors;
 

@@ -87,7 +87,7 @@ fn is_bad(line: &[u8]) -> bool {
 
 #[test]
 fn bad_lines() {
-    let bad = [
+    let bad: [&str; 45] = [
         "",
         "\t",
         " ",
@@ -130,34 +130,8 @@ fn bad_lines() {
         "cluster\t3",
         "cluster\t3\t4\t5",
         "cluster\t3\t",
-        "trim",
-        "trim\t0",
-        "trim\t0\t0",
-        "trim\t0\t0\t",
-        "trim\t0\t\t0",
-        "trim\t0\t0\t3",
-        "trim\t0\t0\t0\t0",
-        "trim\t0\t0\t0\t",
-        "trim\t0\t-0\t0",
-        "trim\t18446744073709551616\t0\t0",
-        "trim\t0\t18446744073709551616\t0",
-        "trim\t0\t0\t18446744073709551616",
-        "Trim\t0\t0\t0",
-        "trim 0\t0\t0",
-        "stop",
-        "stop\t",
-        "stop\t0\t0",
-        "stop\t0\t",
-        "stop\t\t0",
-        "stop\t+0",
-        "stop\t0\r",
-        "stop\t18446744073709551616",
-        "stops\t0",
-        "sto\t0",
-        "stop 0",
-        "\tstop\t0",
-        "note\t0\t0\t0",
-        "read\t0\t0\t1\t0",
+        "trim\t0\t0\t0",
+        "stop\t0",
         "reassign",
     ];
     for line in bad {
@@ -177,16 +151,6 @@ fn lines_that_fit() {
         ("take\t1\t1", "silent"),
         ("take\t1\t02", "silent"),
         ("send\t0\t18446744073709551615\t0", "no\t4"),
-        ("trim\t0\t0\t0", "no\t5"),
-        ("trim\t00\t000\t02", "no\t5"),
-        ("trim\t4\t0\t0", "no\t3"),
-        ("trim\t0\t1\t0", "no\t4"),
-        ("trim\t18446744073709551615\t18446744073709551615\t2", "no\t3"),
-        ("trim\t0\t18446744073709551615\t1", "no\t4"),
-        ("stop\t0", "ok"),
-        ("stop\t003", "ok"),
-        ("stop\t4", "no\t3"),
-        ("stop\t18446744073709551615", "no\t3"),
         ("issue\t0\t0\t0\t9\t", "ok\t1"),
         ("issue\t0\t0\t0\t4294967295\taBcDeF", "ok\t1"),
         ("issue\t0\t0\t0000000000000\t9\t00", "ok\t1"),
@@ -271,12 +235,8 @@ fn five_hundred_bytes_fit_and_one_more_does_not() {
 fn before_the_first_accepted_cluster_line() {
     check(&[
         ("take 0 0", "bad"),
-        ("stop 0", "bad"),
-        ("trim 0 0 0", "bad"),
         ("cluster 2 4", "no 1"),
         ("take 0 0", "bad"),
-        ("stop 0", "bad"),
-        ("trim 0 0 0", "bad"),
         ("cluster 1 4", "ok"),
         ("take 0 0", "ok 1"),
         ("cluster 1 101", "no 1"),
@@ -286,94 +246,6 @@ fn before_the_first_accepted_cluster_line() {
         ("cluster 1 4", "ok"),
         ("take 2 0", "ok 1"),
     ]);
-}
-
-/// "which gains trim server replica fate and stop server" (document 02, No. 11).
-#[test]
-fn trim_and_stop() {
-    check(&[
-        ("stop 0", "bad"),
-        ("cluster 1 2", "ok"),
-        ("stop 0", "ok"),
-        ("stop 4", "no 3"),
-        ("trim 0 0 0", "no 5"),
-        ("stop 0 0", "bad"),
-        ("trim 0 9 0", "no 4"),
-        ("trim 0 0 3", "bad"),
-        ("take 0 0", "ok 1"),
-        ("trim 0 0 0", "no 7"),
-        ("prep 0 0 0", "ok 0"),
-        ("trim 0 0 0", "no 16"),
-        ("open 0 0", "ok 0"),
-        ("issue 0 0 0 0 AA", "no 28"),
-        ("issue 0 0 0 1 AA 1", "ok 1"),
-    ]);
-}
-
-/// Two records on replica 0 alone, and server 1 knows all replicas: the mark 0 is decided.
-const ONE_ABOVE: [(&str, &str); 13] = [
-    ("cluster 3 4", "ok"),
-    ("take 0 0", "ok 1"),
-    ("prep 0 0 0", "ok 0"),
-    ("prep 0 1 0", "ok 0"),
-    ("open 0 0", "ok 0"),
-    ("issue 0 0 0 9 AB", "ok 1"),
-    ("issue 0 0 0 9 CD", "ok 2"),
-    ("send 0 0 0", "ok 0"),
-    ("send 0 0 0", "ok 0"),
-    ("take 1 0", "ok 2"),
-    ("prep 1 0 0", "ok 2"),
-    ("prep 1 1 0", "ok 0"),
-    ("prep 1 2 0", "ok 0"),
-];
-
-fn check_behind(start: &[(&str, &str)], rest: &[(&str, &str)]) {
-    check(&[start, rest].concat());
-}
-
-/// A trim that is lost leaves the records, one whose answer is lost does not; after both the replica is not
-/// known.
-#[test]
-fn fates_of_trim() {
-    check_behind(&ONE_ABOVE, &[("trim 1 0 0", "ok 0"), ("trim 1 0 0", "no 16")]);
-    let lost = [("trim 1 0 1", "silent"), ("trim 1 0 0", "no 7"), ("prep 1 0 0", "ok 2")];
-    check_behind(&ONE_ABOVE, &lost);
-    let answer_lost = [("trim 1 0 2", "silent"), ("trim 1 0 0", "no 7"), ("prep 1 0 0", "ok 0")];
-    check_behind(&ONE_ABOVE, &answer_lost);
-}
-
-/// 8 and 19; the latter is not seen unless the message is answered.
-#[test]
-fn trims_that_are_declined() {
-    let forgotten = [("prep 1 2 1", "silent"), ("prep 1 1 1", "silent")];
-    check_behind(&ONE_ABOVE, &[&forgotten[..], &[("trim 1 0 0", "no 8")]].concat());
-    let overtaken = [("take 2 0", "ok 3"), ("prep 2 0 0", "ok 2")];
-    for (line, reply) in [("trim 1 0 0", "no 19"), ("trim 1 0 1", "silent")] {
-        check_behind(&ONE_ABOVE, &[&overtaken[..], &[(line, reply)]].concat());
-    }
-    // Nothing was written by a trim that the replica declined.
-    let unheard = [("trim 1 0 2", "silent"), ("prep 2 0 0", "ok 2")];
-    check_behind(&ONE_ABOVE, &[&overtaken[..], &unheard].concat());
-}
-
-/// In any phase: idle, opening, open with records in flight. Its session is over, and media and register are
-/// as they were.
-#[test]
-fn a_stopped_server_is_idle() {
-    let rest = [
-        ("stop 2", "ok"),
-        ("stop 1", "ok"),
-        ("trim 1 0 0", "no 5"),
-        ("open 1 0", "no 5"),
-        ("stop 0", "ok"),
-        ("send 0 1 0", "no 5"),
-        ("issue 0 0 0 9 AB", "no 5"),
-        ("take 0 0", "ok 3"),
-        ("prep 0 0 0", "ok 2"),
-        ("prep 0 2 0", "ok 0"),
-        ("open 0 0", "no 8"),
-    ];
-    check_behind(&ONE_ABOVE, &rest);
 }
 
 #[test]

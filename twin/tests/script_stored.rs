@@ -2,11 +2,9 @@
 
 mod stored;
 
-use std::collections::{BTreeMap, BTreeSet};
+use std::collections::BTreeMap;
 
-use twin::cluster::{Phase, HELD};
-use twin::load::Load;
-use twin::script::{self, Program, LINE_LIMIT};
+use twin::script;
 
 #[test]
 fn stored_output_answers_the_stored_input() {
@@ -148,110 +146,6 @@ fn stored_input_has_header_0_beside_others() {
     for (line, reply) in rows.map(|(line, reply)| (line.replace(' ', "\t"), reply)) {
         let found = rest.find(|(other, _)| *other == line.as_bytes()).expect("the line, in order");
         assert_eq!(found.1, reply.replace(' ', "\t"), "{line}");
-    }
-}
-
-/// Whether the stored input has these lines one behind the other, and its output these replies to them.
-fn has(lines: &[u8], replies: &[u8]) -> bool {
-    let (input, output) =
-        (stored::bytes("crates/script/stdin"), stored::text("crates/script/stdout"));
-    let Some(start) = input.windows(lines.len()).position(|window| window == lines) else {
-        return false;
-    };
-    let is_newline = |byte: &&u8| **byte == b'\n';
-    let before = input[..start].iter().filter(is_newline).count();
-    let output: Vec<&str> = output.split_inclusive('\n').skip(before).collect();
-    output.concat().as_bytes().starts_with(replies)
-}
-
-/// The worked runs of document 02, No. 11: of trim and stop, and the first list of calls.
-#[test]
-fn stored_input_has_worked_runs_of_trim_and_stop() {
-    let lines =
-        "cluster 1 2\nstop 0\nstop 4\ntrim 0 0 0\nstop 0 0\ntrim 0 9 0\ntrim 0 0 3\ntake 0 0\n\
-        trim 0 0 0\nprep 0 0 0\ntrim 0 0 0\nopen 0 0\nissue 0 0 0 0 AA\nissue 0 0 0 1 AA 1\n";
-    let replies = "ok\nok\nno 3\nno 5\nbad\nno 4\nbad\nok 1\n\
-        no 7\nok 0\nno 16\nok 0\nno 28\nok 1\n";
-    let [lines, replies] = [lines, replies].map(|text| text.replace(' ', "\t").into_bytes());
-    assert!(has(&lines, &replies));
-    let load = Load { seed: 2718281828, replicas: 3, places: 4, length: 20 };
-    let mut list = Vec::new();
-    load.print(&mut list).expect("memory takes every byte");
-    assert!(has(&list, &script::run(&list)));
-}
-
-/// A trim or stop line of the stored input, with its reply and what the cluster was before it.
-struct Answered {
-    line: Vec<u8>,
-    reply: String,
-    /// Of the server that it names, if there is one.
-    phase: Option<Phase>,
-    in_flight: u64,
-}
-
-/// Every line with this name before its first tab, in order.
-fn named(name: &str) -> Vec<Answered> {
-    let input = stored::bytes("crates/script/stdin");
-    let mut program = Program::default();
-    let mut answered = Vec::new();
-    for line in input.split_inclusive(|&byte| byte == b'\n') {
-        let fields: Vec<&[u8]> = line.trim_ascii_end().split(|&byte| byte == b'\t').collect();
-        let server = program.cluster().and_then(|cluster| {
-            let number: usize = str::from_utf8(fields.get(1)?).ok()?.parse().ok()?;
-            cluster.records.servers.get(number).copied()
-        });
-        let mut reply = Vec::new();
-        program.feed(line, &mut reply);
-        if fields[0] == name.as_bytes() {
-            let reply = String::from_utf8(reply).expect("text").trim_end().replace('\t', " ");
-            let in_flight = server.map_or(0, |server| server.unacknowledged());
-            let phase = server.map(|server| server.phase);
-            answered.push(Answered { line: line.to_vec(), reply, phase, in_flight });
-        }
-    }
-    answered
-}
-
-fn replies(lines: &[Answered]) -> BTreeSet<&str> {
-    lines.iter().map(|it| it.reply.as_str()).collect()
-}
-
-/// Trims to a mark of 0 and to one above, every fate of a granted one, and every refusal in reach.
-#[test]
-fn stored_input_has_every_reply_to_trim() {
-    let trims = named("trim");
-    let reached = [3, 4, 5, 7, 8, 16, 19].map(|number| format!("no {number}"));
-    let others = ["bad", "ok 0", "ok 1", "silent"].map(String::from);
-    let expected: BTreeSet<&str> = reached.iter().chain(&others).map(String::as_str).collect();
-    assert_eq!(replies(&trims), expected);
-    for fate in [b"\t1\n", b"\t2\n"] {
-        let silent = trims.iter().filter(|it| it.reply == "silent" && it.line.ends_with(fate));
-        assert!(silent.count() > 1);
-    }
-}
-
-/// Of idle, opening and open servers, one of them with eight records in flight; stop has no fate.
-#[test]
-fn stored_input_stops_in_every_phase() {
-    let stops = named("stop");
-    assert_eq!(replies(&stops), BTreeSet::from(["bad", "no 3", "ok"]));
-    let stopped = || stops.iter().filter(|it| it.reply == "ok");
-    for phase in [Phase::Idle, Phase::Opening, Phase::Open] {
-        assert!(stopped().any(|it| it.phase == Some(phase)), "{phase:?}");
-    }
-    assert!(stopped().any(|it| it.in_flight == HELD as u64));
-}
-
-/// Granted in as many bytes as a line may have, and bad in one more.
-#[test]
-fn stored_input_has_the_longest_trim_and_stop() {
-    for name in ["trim", "stop"] {
-        let lines = named(name);
-        let of_length = |length: usize| lines.iter().filter(move |it| it.line.len() == length + 1);
-        assert!(of_length(LINE_LIMIT).all(|it| it.reply.starts_with("ok")), "{name}");
-        assert!(of_length(LINE_LIMIT + 1).all(|it| it.reply == "bad"), "{name}");
-        let counts = [LINE_LIMIT, LINE_LIMIT + 1].map(|length| of_length(length).count());
-        assert_eq!(counts, [1, 1], "{name}");
     }
 }
 

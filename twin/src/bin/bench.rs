@@ -1,8 +1,8 @@
-//! Times the proved programs beside others: the jobs of crates/bench, the script program on its stored
-//! input and the load program on its longest lists beside this implementation's, and the mark scan by a
-//! sum beside the one by a product, this implementation's two, and C programs with a library's CRC-32.
-//! All are release builds, run as processes on the same input one after the other; a job's time is that of
-//! many turns less that of none, so that start and set-up fall out. The least of several rounds counts.
+//! Times the proved programs beside others: the jobs of crates/bench and the script program on its
+//! stored input beside this implementation's, and the mark scan by a sum beside the one by a product,
+//! this implementation's two, and C programs with a library's CRC-32. All are release builds, run as
+//! processes on the same input one after the other; a job's time is that of many turns less that of
+//! none, so that start and set-up fall out. The least of several rounds counts.
 
 use std::env;
 use std::fs::{self, File};
@@ -45,17 +45,12 @@ const PLACES_READ: f64 = 7_000.0;
 /// How often the script program's stored input is repeated.
 const SCRIPT_TIMES: usize = 200;
 
-/// How many lists the load program prints in a run, each of 10,000 calls on seven replicas with 100 places.
-const LISTS: usize = 400;
-
-/// The programs: proved jobs, script and load, this implementation's, and one for each library.
+/// The programs: proved jobs, proved script, this implementation's, and one for each library.
 struct Programs {
     jobs: String,
     script: String,
-    load: String,
     twin_jobs: String,
     twin_script: String,
-    twin_load: String,
     libraries: Vec<Library>,
 }
 
@@ -77,10 +72,8 @@ impl Programs {
         Some(Programs {
             jobs: words.next()?,
             script: words.next()?,
-            load: words.next()?,
             twin_jobs: words.next()?,
             twin_script: words.next()?,
-            twin_load: words.next()?,
             libraries: words.map(|word| Library::named_by(&word)).collect::<Option<_>>()?,
         })
     }
@@ -95,7 +88,7 @@ impl Library {
 
 fn main() -> io::Result<ExitCode> {
     let Some(programs) = Programs::named_by(env::args().skip(1)) else {
-        eprintln!("usage: bench JOBS SCRIPT LOAD TWIN-JOBS TWIN-SCRIPT TWIN-LOAD [LIBRARY=JOBS]..");
+        eprintln!("usage: bench JOBS SCRIPT TWIN-JOBS TWIN-SCRIPT [LIBRARY=JOBS]..");
         return Ok(ExitCode::FAILURE);
     };
     println!(
@@ -116,7 +109,6 @@ fn print_jobs(programs: &Programs) -> io::Result<()> {
         print_job(job, "", &programs.jobs, &programs.twin_jobs)?;
     }
     print_script(programs)?;
-    print_load(programs)?;
     for library in &programs.libraries {
         let beside = format!(", beside {}", library.name);
         print_job(CRC, &beside, &programs.jobs, &library.jobs)?;
@@ -166,47 +158,23 @@ fn scans(programs: &Programs) -> Vec<(String, Task<'_>)> {
 /// Lines a second of the script program.
 fn print_script(programs: &Programs) -> io::Result<()> {
     let (input, lines) = script_input()?;
-    let (times, _) = whole_runs([&programs.script, &programs.twin_script], &input)?;
-    print_rates("lines of the script program a second", lines as f64, times);
-    Ok(())
-}
-
-/// What the load program prints a second, in millions of bytes.
-fn print_load(programs: &Programs) -> io::Result<()> {
-    let lines = (1..=LISTS).map(|seed| format!("{seed}\t7\t100\t10000\n"));
-    let input = input_file("load", lines.collect::<String>().as_bytes())?;
-    let (times, bytes) = whole_runs([&programs.load, &programs.twin_load], &input)?;
-    print_rates("MB printed by the load program a second", bytes as f64 / 1e6, times);
-    Ok(())
-}
-
-/// How much of an amount the proved program does a second, and how much the other.
-fn print_rates(what: &str, amount: f64, times: [Duration; 2]) {
-    let [proved, twin] = times.map(|time| amount / time.as_secs_f64());
-    println!("| {what} | {proved:.0} | {twin:.0} | {:.2} |", twin / proved);
-}
-
-/// Each program's time for the whole of an input, and how many bytes both print; they must be the same. The
-/// input's file is removed.
-fn whole_runs(programs: [&str; 2], input: &Path) -> io::Result<([Duration; 2], usize)> {
-    let (mut least, mut same) = ([Duration::MAX; 2], None);
+    let ([mut proved, mut twin], mut same) = ([Duration::MAX; 2], None);
     for _ in 0..ROUNDS {
-        for (program, least) in programs.iter().zip(&mut least) {
-            let (time, output) = run(program, Stdio::from(File::open(input)?), b"")?;
+        for (program, least) in
+            [(&programs.script, &mut proved), (&programs.twin_script, &mut twin)]
+        {
+            let (time, output) = run(program, Stdio::from(File::open(&input)?), b"")?;
             *least = time.min(*least);
-            let same = same.get_or_insert_with(|| output.clone());
-            assert!(*same == output, "{program}: another output");
+            assert!(*same.get_or_insert(output.clone()) == output, "{program}: another output");
         }
     }
-    fs::remove_file(input)?;
-    Ok((least, same.map_or(0, |output| output.len())))
-}
-
-/// A file with this content, to be a program's standard input.
-fn input_file(name: &str, content: &[u8]) -> io::Result<PathBuf> {
-    let path = env::temp_dir().join(format!("bench-{name}-{}", std::process::id()));
-    fs::write(&path, content)?;
-    Ok(path)
+    fs::remove_file(&input)?;
+    let [proved, twin] = [proved, twin].map(|time| lines as f64 / time.as_secs_f64());
+    println!(
+        "| lines of the script program a second | {proved:.0} | {twin:.0} | {:.2} |",
+        twin / proved
+    );
+    Ok(())
 }
 
 /// A file with the stored input many times over, and how many lines it has. Empty lines and those
@@ -220,7 +188,8 @@ fn script_input() -> io::Result<(PathBuf, usize)> {
         .collect();
     let mut once = lines.join(&b'\n');
     once.push(b'\n');
-    let path = input_file("script", &once.repeat(SCRIPT_TIMES))?;
+    let path = env::temp_dir().join(format!("bench-script-{}", std::process::id()));
+    fs::write(&path, once.repeat(SCRIPT_TIMES))?;
     Ok((path, lines.len() * SCRIPT_TIMES))
 }
 

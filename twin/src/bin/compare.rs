@@ -1,12 +1,12 @@
 //! Runs random scripts through two script programs and reports differences.
 
-use std::path::PathBuf;
+use std::path::{Path, PathBuf};
 use std::process::ExitCode;
 use std::{env, fs, io};
 
 use twin::compare::counts::Counts;
 use twin::compare::difference::first_difference;
-use twin::compare::process::{answer, named};
+use twin::compare::process::answer;
 use twin::compare::scripts::{script, Script};
 
 const USAGE: &str = "usage: compare COUNT SEED PROGRAM PROGRAM FOLDER
@@ -58,10 +58,7 @@ impl Task {
     }
 
     fn compare(&self, seed: u64, script: &Script, counts: &mut Counts) -> io::Result<()> {
-        let [first, second] = [0, 1].map(|at| {
-            let program = &self.programs[at];
-            answer(program, script).map_err(named(program))
-        });
+        let [first, second] = [0, 1].map(|at| named(&self.programs[at], script));
         counts.add_script(&script.input);
         let difference = match (&first, &second) {
             (Ok(first), Ok(second)) => {
@@ -85,4 +82,9 @@ impl Task {
         fs::write(&file, &script.input)?;
         Ok(file)
     }
+}
+
+/// What a program answers, or an error that names it.
+fn named(program: &Path, script: &Script) -> Result<Vec<u8>, String> {
+    answer(program, script).map_err(|error| format!("{}: {error}", program.display()))
 }

@@ -28,8 +28,6 @@ pub struct Caller {
     in_flight: u64,
     /// One send in this many goes to any member that may have it, the others to the first.
     fairness: u64,
-    /// One call in this many stops its server.
-    stopping: u64,
 }
 
 impl Caller {
@@ -40,7 +38,6 @@ impl Caller {
             wander: *random.pick(&[5, 15, 60]),
             in_flight: *random.pick(&[1, 1, 3, 9, 9]),
             fairness: *random.pick(&[1, 4, 25]),
-            stopping: *random.pick(&[20, 80, 300]),
         }
     }
 
@@ -48,9 +45,6 @@ impl Caller {
         let server = self.draw_server(random, cluster);
         if random.chance(self.wander) {
             return self.any_call(random, cluster);
-        }
-        if random.chance(self.stopping) {
-            return Line::new("stop").number(server);
         }
         match record(cluster, server).phase {
             Phase::Idle => Line::new("take").number(server).fate(self.fate(random)),
@@ -73,12 +67,9 @@ impl Caller {
         }
     }
 
-    /// Mostly opens if that would be granted, otherwise learns of one more replica, lifts one or trims one.
-    /// Where a member is to fall behind, all are waited for.
+    /// Mostly opens if that would be granted, otherwise learns of one more replica or lifts one. Where
+    /// a member is to fall behind, all are waited for.
     fn towards_open(&self, random: &mut Random, cluster: &Cluster, server: u64) -> Line {
-        if let Some(trim) = self.trim_down(random, cluster, server).filter(|_| random.chance(3)) {
-            return trim;
-        }
         let others = unknown(cluster, server);
         let ready = would_open(cluster, server);
         let waits = self.fairness > 4 && !is_level(cluster, server) && !random.chance(6);
@@ -140,19 +131,6 @@ impl Caller {
         Some(Line::new("copy").number(server).number(from).number(to).fate(self.fate(random)))
     }
 
-    /// A trim of a known replica that stands above the decided mark, if there is one.
-    fn trim_down(&self, random: &mut Random, cluster: &Cluster, server: u64) -> Option<Line> {
-        let mark = decided(&votes(cluster, server))?;
-        let marks = record(cluster, server).marks;
-        let mut above = members(cluster, server);
-        above.retain(|&replica| marks[replica as usize] > mark);
-        if above.is_empty() {
-            return None;
-        }
-        let replica = *random.pick(&above);
-        Some(Line::new("trim").number(server).number(replica).fate(self.fate(random)))
-    }
-
     fn prepare(&self, random: &mut Random, cluster: &Cluster, server: u64) -> Line {
         let replica = random.below(cluster.shape.replicas);
         Line::new("prep").number(server).number(replica).fate(self.fate(random))
@@ -165,15 +143,13 @@ impl Caller {
         let beyond = u64::from(random.chance(12));
         let [one, other] = [(); 2].map(|_| random.below(cluster.shape.replicas + beyond));
         let fate = self.fate(random);
-        match random.below(8) {
+        match random.below(6) {
             0 => Line::new("take").number(server).fate(fate),
             1 => Line::new("prep").number(server).number(one).fate(fate),
             2 => Line::new("copy").number(server).number(one).number(other).fate(fate),
-            3 => Line::new("trim").number(server).number(one).fate(fate),
-            4 => Line::new("open").number(server).fate(fate),
-            5 => issue(random, cluster, server),
-            6 => Line::new("send").number(server).number(one).fate(fate),
-            _ => Line::new("stop").number(server),
+            3 => Line::new("open").number(server).fate(fate),
+            4 => issue(random, cluster, server),
+            _ => Line::new("send").number(server).number(one).fate(fate),
         }
     }
 
@@ -277,15 +253,12 @@ fn is_level(cluster: &Cluster, server: u64) -> bool {
     unknown(cluster, server).is_empty() && marks.iter().all(|&mark| mark == marks[0])
 }
 
-/// The recorded mark of each replica that an opening server knows.
-fn votes(cluster: &Cluster, server: u64) -> Vec<Option<u64>> {
-    let held = record(cluster, server);
-    (0..cluster.shape.replicas as usize).map(|replica| held.known_mark(replica)).collect()
-}
-
 /// Whether an opening server has decided a mark and a quorum stands exactly at it.
 fn would_open(cluster: &Cluster, server: u64) -> bool {
-    let votes = votes(cluster, server);
+    let known = members(cluster, server);
+    let marks = record(cluster, server).marks;
+    let mark_of = |i: u64| known.contains(&i).then(|| marks[i as usize]);
+    let votes: Vec<Option<u64>> = (0..cluster.shape.replicas).map(mark_of).collect();
     decided(&votes).is_some_and(|mark| {
         let clean = votes.iter().filter(|&&vote| vote == Some(mark)).count();
         clean >= quorum(votes.len())

@@ -37,15 +37,9 @@ impl Counts {
             *self.replies.entry(kind(reply)).or_default() += 1;
         }
     }
-
-    /// The replies of each kind, a comma before each.
-    pub fn kinds(&self) -> String {
-        self.replies.iter().map(|(kind, count)| format!(", {kind}: {count}")).collect()
-    }
 }
 
-/// The kind of a reply, with or without its newline.
-pub fn kind(reply: &[u8]) -> Kind {
+fn kind(reply: &[u8]) -> Kind {
     let text = String::from_utf8_lossy(reply);
     match text.trim_end().split_once('\t').unwrap_or((text.trim_end(), "")) {
         ("ok", _) => Kind::Ok,
@@ -71,6 +65,9 @@ impl fmt::Display for Kind {
 impl fmt::Display for Counts {
     fn fmt(&self, out: &mut fmt::Formatter) -> fmt::Result {
         write!(out, "scripts: {}, lines: {}, bytes: {}", self.scripts, self.lines, self.bytes)?;
-        write!(out, "{}, differences: {}", self.kinds(), self.differences)
+        for (kind, count) in &self.replies {
+            write!(out, ", {kind}: {count}")?;
+        }
+        write!(out, ", differences: {}", self.differences)
     }
 }

@@ -9,7 +9,6 @@ kinds! {
     Malformed:
     Empty,
     OtherName,
-    OtherForm,
     FieldsMissing,
     FieldTooMany,
     LeadingTab,
@@ -37,22 +36,9 @@ kinds! {
 use Malformed::*;
 
 /// Names of calls that have no form, and names that almost have one.
-const NAMES: [&str; 19] = [
-    "note", "read", "export", "reassign", "restore", "prepare", "Take", "TAKE", "tak", "takes",
-    "opens", "sen", "copyy", "clusters", "Trim", "stops", "sto", "0", "",
-];
-
-/// The names that have a form, each with the least number of its fields; only an issue may have more.
-const FORMS: [(&str, usize); 9] = [
-    ("cluster", 3),
-    ("take", 3),
-    ("prep", 4),
-    ("copy", 5),
-    ("trim", 4),
-    ("open", 3),
-    ("issue", 6),
-    ("send", 4),
-    ("stop", 2),
+const NAMES: [&str; 16] = [
+    "trim", "note", "read", "stop", "reassign", "prepare", "Take", "TAKE", "tak", "takes", "opens",
+    "sen", "copyy", "clusters", "0", "",
 ];
 
 /// Wrong fates, among them some that look right in fewer bits.
@@ -63,8 +49,8 @@ impl Malformed {
     pub fn line(self, random: &mut Random, call: &Line, issue: &Line) -> Vec<u8> {
         match self {
             Empty => Vec::new(),
-            OtherName | OtherForm | FieldsMissing | FieldTooMany | LeadingTab | BlankForTab
-            | BlankAround | CarriageReturn => self.in_fields(random, call),
+            OtherName | FieldsMissing | FieldTooMany | LeadingTab | BlankForTab | BlankAround
+            | CarriageReturn => self.in_fields(random, call),
             EmptyNumber | Plus | Minus | OtherCharacter | Beyond64 | ThirtyDigits => {
                 let call = call
                     .changed(random, Kind::is_number, |random, text| self.in_number(random, text));
@@ -82,8 +68,12 @@ impl Malformed {
     fn in_fields(self, random: &mut Random, call: &Line) -> Vec<u8> {
         let bytes = call.bytes();
         match self {
-            OtherName => renamed(random, call, &NAMES),
-            OtherForm => other_form(random, call),
+            OtherName => {
+                let name = |random: &mut Random, _: &[u8]| random.pick(&NAMES).as_bytes().to_vec();
+                call.changed(random, |kind| kind == Kind::Name, name)
+                    .unwrap_or(call.clone())
+                    .bytes()
+            }
             FieldsMissing => fields_missing(random, call),
             // An empty field is no lock either.
             FieldTooMany if random.chance(2) => [&bytes[..], b"\t"].concat(),
@@ -153,20 +143,6 @@ impl Malformed {
     }
 }
 
-fn renamed(random: &mut Random, call: &Line, names: &[&str]) -> Vec<u8> {
-    let name = |random: &mut Random, _: &[u8]| random.pick(names).as_bytes().to_vec();
-    call.changed(random, |kind| kind == Kind::Name, name).unwrap_or(call.clone()).bytes()
-}
-
-/// The fields of one form under the name of another that has more or fewer.
-fn other_form(random: &mut Random, call: &Line) -> Vec<u8> {
-    let own = &call.fields[0].text;
-    let differs =
-        |(name, fields): &&(&str, usize)| name.as_bytes() != own && *fields != call.fields.len();
-    let names: Vec<&str> = FORMS.iter().filter(differs).map(|(name, _)| *name).collect();
-    renamed(random, call, &names)
-}
-
 /// Fewer fields than the form has without its locks.
 fn fields_missing(random: &mut Random, call: &Line) -> Vec<u8> {
     let least = call.fields.iter().filter(|field| field.kind != Kind::Lock).count();
@@ -204,11 +180,5 @@ fn beyond_32(random: &mut Random, text: &[u8]) -> Vec<u8> {
 pub fn plain_lines(random: &mut Random) -> [Line; 2] {
     let data = digits(random, 2);
     let issue = Line::new("issue").number(0).number(0).word(0).word(9).data(&data).lock(1);
-    let (server, replica, fate) = (random.below(4), random.below(3), random.below(3));
-    let call = match random.below(4) {
-        0 => Line::new("stop").number(server),
-        1 => Line::new("trim").number(server).number(replica).fate(fate),
-        _ => Line::new("take").number(server).fate(fate),
-    };
-    [call, issue]
+    [Line::new("take").number(random.below(4)).fate(random.below(3)), issue]
 }

@@ -1,10 +1,10 @@
-//! Programs as processes: each gets an input, in pieces or from the one before it, and what is printed comes back.
+//! A program as a process: gets an input in pieces and hands back what it prints.
 
-use std::io::{self, Read, Write};
+use std::io::{self, Write};
 use std::os::fd::OwnedFd;
 use std::os::unix::net::UnixDatagram;
 use std::path::Path;
-use std::process::{Child, ChildStdin, Command, ExitStatus, Stdio};
+use std::process::{Child, ChildStdin, Command, Stdio};
 use std::thread;
 
 use super::scripts::Script;
@@ -17,46 +17,12 @@ pub fn answer(program: &Path, script: &Script) -> io::Result<Vec<u8>> {
     thread::scope(|scope| {
         let writer = scope.spawn(|| input.write(script));
         let output = child.wait_with_output()?;
-        check(output.status)?;
+        if !output.status.success() {
+            return Err(io::Error::other(format!("it ends with {}", output.status)));
+        }
         writer.join().map_err(|_| io::Error::other("its writer fails"))??;
         Ok(output.stdout)
     })
-}
-
-/// What the last of the programs printed; each reads what the one before it prints, all at work at once, and
-/// the first a short input. An error names its program.
-pub fn piped(programs: &[&Path], input: &[u8]) -> Result<Vec<u8>, String> {
-    let mut children: Vec<Child> = Vec::new();
-    for program in programs {
-        let before = children.last_mut().and_then(|child| child.stdout.take());
-        let stdin = before.map_or_else(Stdio::piped, Stdio::from);
-        let child = Command::new(program).stdin(stdin).stdout(Stdio::piped()).spawn();
-        children.push(child.map_err(named(program))?);
-    }
-    if let Some(mut stdin) = children.first_mut().and_then(|child| child.stdin.take()) {
-        // Less than a pipe holds, so that nobody waits.
-        stdin.write_all(input).map_err(named(programs[0]))?;
-    }
-    let mut printed = Vec::new();
-    if let Some(mut stdout) = children.last_mut().and_then(|child| child.stdout.take()) {
-        stdout.read_to_end(&mut printed).map_err(named(programs[programs.len() - 1]))?;
-    }
-    for (child, program) in children.iter_mut().zip(programs) {
-        child.wait().and_then(check).map_err(named(program))?;
-    }
-    Ok(printed)
-}
-
-/// An error with the program that it comes from.
-pub fn named(program: &Path) -> impl Fn(io::Error) -> String + '_ {
-    move |error| format!("{}: {error}", program.display())
-}
-
-fn check(status: ExitStatus) -> io::Result<()> {
-    match status.success() {
-        true => Ok(()),
-        false => Err(io::Error::other(format!("it ends with {status}"))),
-    }
 }
 
 fn start(program: &Path, by_piece: bool) -> io::Result<(Child, Input)> {

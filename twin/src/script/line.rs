@@ -1,10 +1,10 @@
 //! The forms of a line.
 
+use super::LINE_LIMIT;
 use crate::cluster::{Call, Message, Request, Shape};
 use crate::decimal::number;
 use crate::fate::Fate;
 use crate::hex;
-use crate::lines::LINE_LIMIT;
 
 /// What the script fills in as client (document 02, No. 6): the first of the booking system, so that its
 /// requests are never a gate's. Partition and sequence stay 0.
@@ -59,11 +59,6 @@ impl<'a, I: Iterator<Item = &'a [u8]>> Fields<I> {
                 to: self.number()?,
                 message: self.message()?,
             },
-            b"trim" => Call::Trim {
-                server: self.number()?,
-                replica: self.number()?,
-                message: self.message()?,
-            },
             b"open" => Call::Open { server: self.number()?, fate: self.fate()? },
             b"issue" => Call::Issue { server: self.number()?, request: self.request()? },
             b"send" => Call::Send {
@@ -71,7 +66,6 @@ impl<'a, I: Iterator<Item = &'a [u8]>> Fields<I> {
                 replica: self.number()?,
                 message: self.message()?,
             },
-            b"stop" => Call::Stop { server: self.number()? },
             _ => return None,
         })
     }

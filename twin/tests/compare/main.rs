@@ -1,8 +1,6 @@
-//! The comparisons of two script programs: what their scripts reach, and that they find a difference.
+//! The comparison of two script programs: what its scripts reach, and that it finds a difference.
 
 mod differences;
-mod forms;
-mod loads;
 mod program;
 mod reach;
 mod spoilt_lines;

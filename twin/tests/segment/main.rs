@@ -2,9 +2,7 @@
 
 mod header_zero;
 mod round_trips;
+mod sha256;
 mod spoilt;
 mod words;
 mod worked;
-
-#[path = "../sha256/mod.rs"]
-mod sha256;

@@ -25,9 +25,8 @@ loop-k-preserved c =
 
 pub returns : goal.returns
 returns c =
-    let s = c in
     let l = c.loop-k in
-    let z : l.k + 4 - s.args.width ≡ 0 = omega arith in
-    sym (look_end s.args.t.now l.r l.k l.y s.requires.0 (omega arith) (rw z at l.invariant.2))
+    let z : l.k + 4 - c.args.width ≡ 0 = omega arith in
+    sym (look_end c.args.t.now l.r l.k l.y c.requires.t_value (omega arith) (rw z at l.invariant.2))
     ∙ sym l.invariant.3
-    ∙ ap (bit_xor s.args.before) (four_out s.args.t.now s.args.width s.args.x s.requires.0 s.requires.1.0 s.requires.1.1 s.ranges.x.fits)
+    ∙ ap (bit_xor c.args.before) (four_out c.args.t.now c.args.width c.args.x c.requires.t_value c.requires.le_width.0 c.requires.le_width.1 c.ranges.x.fits)

@@ -6,5 +6,4 @@ use Rattle.locks.proofs.estimate.Goals as goal
 pub returns : goal.returns
 unfolding estimate_of
 returns c =
-    let at = c in
-    rw (c.lesser-2.ensures, c.lesser.ensures, at.lock-place3.ensures.0, at.before.lock-place2.ensures.0, at.before.before.lock-place.ensures.0)
+    rw (c.lesser-2.ensures, c.lesser.ensures, c.lock_place-r.ensures.0, c.lock_place-q.ensures.0, c.lock_place-p.ensures.0)

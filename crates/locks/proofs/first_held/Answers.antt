@@ -11,17 +11,15 @@ loop-i-init c = (search rules, refl)
 
 pub returns-then-refuses : goal.returns-then-refuses
 returns-then-refuses c =
-    let at = c in
-    held_here _ at.before.before.before.args.locks.now _ at.loop.i _ at.loop.invariant.1 (omega arith)
+    held_here _ c.args.locks.now _ c.loop-i.i _ c.loop-i.invariant.1 (omega arith)
     _ _ c.estimate-e.ensures c.refuses.ensures c.if-refuses.true
 
 pub loop-i-preserved : goal.loop-i-preserved
-loop-i-preserved c =
-    let at = c in (
-      search rules,
-      held_next _ at.before.before.before.args.locks.now _ at.loop.i _ at.loop.invariant.1 (omega arith)
-          _ _ c.estimate-e.ensures c.refuses.ensures c.if-refuses.false,
-    )
+loop-i-preserved c = (
+  search rules,
+  held_next _ c.args.locks.now _ c.loop-i.i _ c.loop-i.invariant.1 (omega arith)
+      _ _ c.estimate-e.ensures c.refuses.ensures c.if-refuses.false,
+)
 
 pub returns : goal.returns
 returns c =

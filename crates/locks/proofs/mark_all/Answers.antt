@@ -10,12 +10,11 @@ pub loop-i-init : goal.loop-i-init
 loop-i-init c = (search rules, refl, refl)
 
 pub loop-i-preserved : goal.loop-i-preserved
-loop-i-preserved c =
-    let at = c in (
-      search rules,
-      c.mark_lock.auto.table ∙ at.loop.invariant.1,
-      marked_next _ at.before.before.before.args.locks.now _ at.loop.i _ at.loop.invariant.2 (omega arith) _ c.mark_lock.ensures,
-    )
+loop-i-preserved c = (
+  search rules,
+  c.mark_lock.auto.table ∙ c.loop-i.invariant.1,
+  marked_next _ c.args.locks.now _ c.loop-i.i _ c.loop-i.invariant.2 (omega arith) _ c.mark_lock.ensures,
+)
 
 pub returns : goal.returns
 returns c =

@@ -1,16 +1,13 @@
 -- `locks::put_row` meets its contract. The loop's invariant: the places below at + i hold the mark, and the others are as they were.
 -- Assumes nothing.
-use Prim.Native.Nat.{ℕ, ◌+◌, ◌≤◌, ◌<◌}
+use Prim.Native.Nat.{ℕ, ◌+◌, ◌<◌}
 use mathlib.Core.Path.{◌≡◌, refl}
-use mathlib.Core.List.{List, ◌++◌}
+use mathlib.Core.List.{List}
 use native.Mathlib.Omega.{arith}
-use lib.ListN.{length, get_or, set, replicate, drop, length-set, get_or-replicate}
+use lib.ListN.{get_or, set, length-set, get_or-replicate}
 use borrow.Author.Fill.{fill_more}
+use Rattle.locks.proofs.put_row.Invariants.{Filled}
 use Rattle.locks.proofs.put_row.Goals as goal
-
-abbrev Filled : ℕ → ℕ → ℕ → List ℕ → List ℕ → List ℕ → Type 0
-Filled at k i row table₀ table =
-    (v : ℕ) (old : List ℕ) → row ≡ replicate 256 v → at + k ≤ length old → table₀ ≡ replicate at v ++ drop at old → table ≡ replicate (at + i) v ++ drop (at + i) old
 
 next : (at i : ℕ) (row table₀ table : List ℕ) → i < 256 → Filled at 256 i row table₀ table → Filled at 256 (i + 1) row table₀ (set table (at + i) (get_or row i 0))
 next at i row table₀ table l h v old er el et =

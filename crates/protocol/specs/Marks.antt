@@ -1,7 +1,7 @@
 -- Words about marks that count replicas: decided, clean, reached.
 -- Assumes nothing.
 use Rattle.std.specs.Prelude.{◌≡◌, Bool, true, false, not, ◌&&◌, ℕ, ◌+◌, ◌≤◌, ◌<◌, eqb}
-use Rattle.std.proofs.Math.Logic.{Dec·and}
+use Rattle.std.proofs.Math.Logic.Dec
 use Rattle.std.proofs.Math.Bool.{Bool-discrete}
 use Rattle.std.proofs.Math.Decide.{dec_le, dec_lt}
 use Rattle.protocol.specs.Columns.{count}
@@ -16,10 +16,10 @@ unflagged? flag j = Bool-discrete (flag j) false
 
 -- it has the flag, and its mark is above D; it has the flag, and its mark reaches m
 abbrev pub above? : (flag : ℕ → Bool) (mark : ℕ → ℕ) (D j : ℕ) → Dec ((flag j ≡ true) × (D < mark j))
-above? flag mark D j = Dec·and (flagged? flag j) (dec_lt D (mark j))
+above? flag mark D j = Dec.and (flagged? flag j) (dec_lt D (mark j))
 
 abbrev pub reaches? : (flag : ℕ → Bool) (mark : ℕ → ℕ) (m j : ℕ) → Dec ((flag j ≡ true) × (m ≤ mark j))
-reaches? flag mark m j = Dec·and (flagged? flag j) (dec_le m (mark j))
+reaches? flag mark m j = Dec.and (flagged? flag j) (dec_le m (mark j))
 
 -- whose mark counts in the vote of s. Document 02, No. 10: a restored replica "counts as absent in the vote", by the entry that take handed over.
 abbrev pub voter : State → ℕ → ℕ → Bool

@@ -5,7 +5,7 @@ use mathlib.Core.List.{List, [], ◌∷◌}
 use Prim.Native.Nat.{ℕ, ◌*◌}
 use native.Mathlib.Omega.{arith}
 use lib.ListN.{length}
-use Rattle.hex.specs.Hex.{hex_of}
+use Rattle.hex_digits.specs.Hex.{hex_of}
 
 pub hex_length : (d : List ℕ) → length (hex_of d) ≡ 2 * length d
 unfolding hex_of

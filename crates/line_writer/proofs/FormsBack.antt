@@ -17,7 +17,7 @@ use Rattle.text.specs.declared.number.Number.TheVariants.{Is}
 use Rattle.byte_search.specs.Bytes.{index_of}
 use Rattle.text.specs.Text.{first_of, after_of, field_of, field_count, number_of, decimal_of}
 use Rattle.text.proofs.Digits.{a_word}
-use Rattle.hex.specs.Hex.{hex_of}
+use Rattle.hex_digits.specs.Hex.{hex_of}
 use Rattle.lines.specs.declared.values.FateField.TheVariants as field
 use Rattle.lines.specs.Words.{same, cluster_word, take_word, prep_word, copy_word, open_word, issue_word, send_word, trim_word, stop_word}
 use Rattle.lines.specs.Values.{fate_of}

@@ -11,9 +11,9 @@ use lib.ListN.{length}
 use borrow.Author.Tests.{lt-ltb, ltb-true}
 use Rattle.base.proofs.Tests.{lt_or_le, both}
 use Rattle.octets.specs.Octets.{Bytes}
-use Rattle.hex.specs.Hex.{digit_of, is_hex, bytes_of, glyph_of, hex_of}
-use Rattle.hex.proofs.Pairs.{digit_figure, digit_capital}
-use Rattle.hex.proofs.Spelling.{glyph_low, glyph_high}
+use Rattle.hex_digits.specs.Hex.{digit_of, is_hex, bytes_of, glyph_of, hex_of}
+use Rattle.hex_digits.proofs.Pairs.{digit_figure, digit_capital}
+use Rattle.hex_digits.proofs.Spelling.{glyph_low, glyph_high}
 use Rattle.text.specs.Text.{tab}
 use Rattle.line_writer.proofs.Joined.{Tabless}
 

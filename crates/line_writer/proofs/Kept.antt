@@ -17,7 +17,7 @@ use Rattle.text.specs.declared.number.Number.{Number}
 use Rattle.text.specs.declared.number.Number.TheVariants.{Is, Unfit}
 use Rattle.text.specs.declared.number.Word.TheVariants as word
 use Rattle.text.specs.Text.{behind_of, after_of, field_of, field_count, number_of, word_of, decimal_of}
-use Rattle.hex.specs.Hex.{is_hex, bytes_of, hex_of}
+use Rattle.hex_digits.specs.Hex.{is_hex, bytes_of, hex_of}
 use Rattle.lines.specs.declared.values.FateField.{FateField}
 use Rattle.lines.specs.declared.values.FateField.TheVariants as field
 use Rattle.lines.specs.Words.{same, cluster_word, take_word, prep_word, copy_word, open_word, issue_word, send_word, trim_word, stop_word}

@@ -8,7 +8,7 @@ use Rattle.cluster.specs.declared.Call.{Call}
 use Rattle.cluster.specs.declared.Call.TheVariants as call
 use Rattle.text.specs.Text.{tab, decimal_of}
 pub use Rattle.text.specs.Text.{newline}
-use Rattle.hex.specs.Hex.{hex_of}
+use Rattle.hex_digits.specs.Hex.{hex_of}
 use Rattle.lines.specs.Words.{cluster_word, take_word, prep_word, copy_word, open_word, issue_word, send_word, trim_word, stop_word}
 use Rattle.lines.specs.Forms.{Meaning, bad, cluster, asked}
 

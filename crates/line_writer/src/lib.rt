@@ -4,7 +4,7 @@
 ghost use Rattle.std.specs.Prelude.{◌≡◌, [], ◌∷◌, ◌++◌, ◌+◌, ◌*◌, ◌≤◌, length, take};
 ghost use Rattle.octets.specs.Octets.{write_at};
 ghost use Rattle.text.specs.Text.{tab, decimal_of};
-ghost use Rattle.hex.specs.Hex.{hex_of};
+ghost use Rattle.hex_digits.specs.Hex.{hex_of};
 ghost use Rattle.cluster.specs.declared.Call.TheVariants as call;
 ghost use Rattle.lines.specs.Forms.{asked, cluster as Forms·cluster};
 ghost use Rattle.line_writer.specs.Lines.{behind_tabs, numbers, fate_number, form_text, call_text, printed, word_room, number_room, form_room, text_room};
@@ -63,7 +63,7 @@ fn put_data(out: &mut [u8], at: usize, content: &[u8]) -> usize
     octets::put(out, at, b"\t");
     let a = at + 1;
     let e = a + 2 * content.len();
-    hex::spell(content, &mut out[a..e]);
+    hex_digits::spell(content, &mut out[a..e]);
     e
 }
 

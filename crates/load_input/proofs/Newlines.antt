@@ -9,7 +9,7 @@ use lib.Dec.{eqb, ltb}
 use borrow.Author.Tests.{eq-eqb, not-true}
 use Rattle.base.proofs.Tests.{both}
 use Rattle.text.specs.Text.{spelled, decimal_of}
-use Rattle.hex.specs.Hex.{glyph_of, hex_of}
+use Rattle.hex_digits.specs.Hex.{glyph_of, hex_of}
 use Rattle.line_writer.specs.Lines.{newline, behind_tabs, joined, numbers}
 
 abbrev pub Newlineless : List ℕ → Type 0

@@ -13,7 +13,7 @@ use Rattle.fate.specs.declared.Fate.TheVariants.{Answered, Lost, AnswerLost}
 use Rattle.cluster.specs.declared.Call.TheVariants as call
 use Rattle.text.specs.Text.{tab, decimal_of}
 use Rattle.text.proofs.Decimals.{spelled_few}
-use Rattle.hex.specs.Hex.{hex_of}
+use Rattle.hex_digits.specs.Hex.{hex_of}
 use Rattle.lines.specs.Words.{cluster_word, take_word, prep_word, copy_word, open_word, issue_word, send_word, trim_word, stop_word}
 use Rattle.lines.specs.Forms.{Meaning, cluster, asked, line_limit, request_of}
 use Rattle.line_writer.specs.Lines.{behind_tabs, joined, numbers, form_text, fate_number, line_text}

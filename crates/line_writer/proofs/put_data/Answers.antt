@@ -6,7 +6,7 @@ use Prim.Native.Nat.{◌+◌, ◌*◌}
 use lib.ListN.{length}
 use Rattle.octets.proofs.Laws.{mid_write}
 use Rattle.text.specs.Text.{tab}
-use Rattle.hex.specs.Hex.{hex_of}
+use Rattle.hex_digits.specs.Hex.{hex_of}
 use Rattle.line_writer.proofs.Puts.{puts}
 use Rattle.line_writer.proofs.Digits.{hex_length}
 use native.Mathlib.Omega.{arith}

@@ -3,7 +3,7 @@
 use mathlib.Core.List.{List, [], ◌∷◌}
 use Prim.Native.Nat.{ℕ}
 use Rattle.text.specs.Text.{tab}
-use Rattle.hex.specs.Hex.{hex_of}
+use Rattle.hex_digits.specs.Hex.{hex_of}
 use Rattle.lines.specs.Words.{issue_word}
 use Rattle.line_writer.specs.Lines.{form_text}
 use Rattle.line_writer.proofs.Puts.{puts, with_data}

@@ -13,11 +13,11 @@ use Rattle.text.specs.Text.{after_of, field_of, field_count}
 use Rattle.lines.specs.declared.forms.Line.{Line}
 use Rattle.lines.specs.declared.forms.Line.TheVariants as line
 use Rattle.lines.specs.Words.{same, issue_word}
-use Rattle.hex.specs.Hex.{is_hex, bytes_of}
+use Rattle.hex_digits.specs.Hex.{is_hex, bytes_of}
 use Rattle.lines.specs.Values.{all_numbers, numbers_of}
 use Rattle.lines.specs.Forms.{Meaning, bad, asked, data_then, issue_form, plain_form, form_of, line_limit, meaning_of, line_of, data_of, locks_of}
 use Rattle.octets.proofs.Laws.{write_none}
-use Rattle.hex.proofs.Pairs.{bytes_length}
+use Rattle.hex_digits.proofs.Pairs.{bytes_length}
 use Rattle.lines.proofs.Numbers.{numbers_length}
 use Rattle.lines.proofs.Bare.{Bare}
 

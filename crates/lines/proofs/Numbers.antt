@@ -12,7 +12,7 @@ use Rattle.text.specs.declared.number.Number.{Number}
 use Rattle.text.specs.Text.{first_of, behind_of, number_of}
 use Rattle.lines.specs.Values.{is_number, value_of, all_numbers, numbers_of}
 use Rattle.octets.proofs.Laws.{write_none}
-use Rattle.hex.proofs.Writes.{write_next}
+use Rattle.hex_digits.proofs.Writes.{write_next}
 
 -- what is made of the first field
 pub of_first : {A : Type 0} (g : Number → A) (x : A) (n : Number) (f t : List ℕ) → x ≡ g n → n ≡ number_of f → f ≡ first_of t → x ≡ g (number_of (first_of t))

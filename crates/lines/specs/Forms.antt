@@ -23,7 +23,7 @@ use Rattle.lines.specs.declared.forms.Two.TheVariants as two
 use Rattle.lines.specs.declared.forms.Head.{Head}
 use Rattle.lines.specs.declared.forms.Head.TheVariants as head
 use Rattle.lines.specs.Words.{same, cluster_word, take_word, prep_word, copy_word, open_word, issue_word, send_word, trim_word, stop_word}
-use Rattle.hex.specs.Hex.{is_hex, bytes_of}
+use Rattle.hex_digits.specs.Hex.{is_hex, bytes_of}
 use Rattle.lines.specs.Values.{fate_of, all_numbers, numbers_of}
 
 -- what a line asks for: nothing ("prints bad and does nothing"), a fresh cluster of R and N, or a call with its data and locks

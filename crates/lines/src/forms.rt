@@ -152,7 +152,7 @@ fn beside(
     ensures locks_after { locks.new ≡ write_at 0 (locks_of (data_then line.now server q)) locks.old }
 {
     let digits = line::field(line, 5);
-    if !hex::is_hex(digits) {
+    if !hex_digits::is_hex(digits) {
         return Line::Bad;
     }
     let k = n - 6;
@@ -160,7 +160,7 @@ fn beside(
     if !values::all_numbers(rest, k) {
         return Line::Bad;
     }
-    hex::read(digits, content);
+    hex_digits::read(digits, content);
     values::read_numbers(rest, k, locks);
     Line::Asked(Call::Issue(server, q), digits.len() / 2, k)
 }

@@ -1,6 +1,6 @@
 // Bytes that a field of a line is to fill.
 ghost use Rattle.std.specs.Prelude.{◌≡◌, true};
-ghost use Rattle.hex.specs.Hex.{bytes_of};
+ghost use Rattle.hex_digits.specs.Hex.{bytes_of};
 
 // The bytes whose digits s has, in out: true only where s is the digits of as many as out takes.
 pub fn read(s: &[u8], out: &mut [u8]) -> bool
@@ -12,9 +12,9 @@ pub fn read(s: &[u8], out: &mut [u8]) -> bool
     if s.len() % 2 != 0 {
         return false;
     }
-    if !hex::is_hex(s) {
+    if !hex_digits::is_hex(s) {
         return false;
     }
-    hex::read(s, out);
+    hex_digits::read(s, out);
     true
 }

@@ -29,6 +29,6 @@ pub fn digits(b: &[u8])
 fn spelled(b: &[u8], out: &mut [u8])
     requires { length out.old ≡ 2 * length b.now }
 {
-    hex::spell(b, out);
+    hex_digits::spell(b, out);
     text(out);
 }

@@ -3,8 +3,8 @@
 use mathlib.Core.Path.{sym, ◌∙◌}
 use native.Mathlib.Omega.{arith}
 use Rattle.octets.proofs.Laws.{write_all}
-use Rattle.hex.specs.Hex.{bytes_of}
-use Rattle.hex.proofs.Pairs.{bytes_length}
+use Rattle.hex_digits.specs.Hex.{bytes_of}
+use Rattle.hex_digits.proofs.Pairs.{bytes_length}
 use Rattle.run_lines.proofs.digits.read.Goals as goal
 
 pub returns-then-s-out : goal.returns-then-s-out

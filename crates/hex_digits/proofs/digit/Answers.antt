@@ -1,7 +1,7 @@
--- `hex::digit`, by the ranges of digits.
+-- `hex_digits::digit`, by the ranges of digits.
 -- Assumes nothing.
-use Rattle.hex.proofs.Pairs.{below_digits, digit_figure, below_capitals, digit_capital, below_small, digit_small, above_digits}
-use Rattle.hex.proofs.digit.Goals as goal
+use Rattle.hex_digits.proofs.Pairs.{below_digits, digit_figure, below_capitals, digit_capital, below_small, digit_small, above_digits}
+use Rattle.hex_digits.proofs.digit.Goals as goal
 
 pub returns-then-b-lt48 : goal.returns-then-b-lt48
 returns-then-b-lt48 c = below_digits _ c.if-b-lt48.true

@@ -3,7 +3,7 @@
 
 ghost use Rattle.std.specs.Prelude.{◌≡◌, true, ◌*◌, ◌<◌, ◌≤◌, length};
 ghost use Rattle.octets.specs.Octets.{write_at};
-ghost use Rattle.hex.specs.Hex.{digit_of, is_hex, bytes_of, glyph_of, hex_of};
+ghost use Rattle.hex_digits.specs.Hex.{digit_of, is_hex, bytes_of, glyph_of, hex_of};
 
 // What a hexadecimal digit stands for; 16 where the byte is none.
 fn digit(b: u8) -> u8

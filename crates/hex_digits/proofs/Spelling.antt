@@ -8,7 +8,7 @@ use native.Mathlib.Omega.{arith}
 use lib.ListN.{length, get_or, take, set}
 use lib.Seq.{take-suc, take-suc-set, take_all, lt-length-set}
 use borrow.Author.Tests.{lt-ltb, le-ltb}
-use Rattle.hex.specs.Hex.{glyph_of, hex_of}
+use Rattle.hex_digits.specs.Hex.{glyph_of, hex_of}
 
 pub glyph_low : (d : ℕ) → d < 10 → 48 + d ≡ glyph_of d
 glyph_low d h = rw (lt-ltb d 10 h)

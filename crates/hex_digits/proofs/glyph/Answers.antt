@@ -1,7 +1,7 @@
--- `hex::glyph`, by the two ranges of digits.
+-- `hex_digits::glyph`, by the two ranges of digits.
 -- Assumes nothing.
-use Rattle.hex.proofs.Spelling.{glyph_low, glyph_high}
-use Rattle.hex.proofs.glyph.Goals as goal
+use Rattle.hex_digits.proofs.Spelling.{glyph_low, glyph_high}
+use Rattle.hex_digits.proofs.glyph.Goals as goal
 
 pub returns-then-d-lt10 : goal.returns-then-d-lt10
 returns-then-d-lt10 c = glyph_low _ c.if-d-lt10.true

@@ -1,12 +1,12 @@
--- `hex::spell`. The invariant: what is written is the spelling of the bytes passed.
+-- `hex_digits::spell`. The invariant: what is written is the spelling of the bytes passed.
 -- Assumes nothing.
 use mathlib.Core.Path.{refl}
 use native.Mathlib.Omega.{arith}
 use lib.ListN.{length-set}
 use borrow.Author.Rules.{rules}
-use Rattle.hex.specs.Hex.{hex_of}
-use Rattle.hex.proofs.Spelling.{spell_next, hex_end}
-use Rattle.hex.proofs.spell.Goals as goal
+use Rattle.hex_digits.specs.Hex.{hex_of}
+use Rattle.hex_digits.proofs.Spelling.{spell_next, hex_end}
+use Rattle.hex_digits.proofs.spell.Goals as goal
 
 pub loop-i-init : goal.loop-i-init
 unfolding hex_of

@@ -1,13 +1,13 @@
--- `hex::is_hex`. The invariant: whether the rest is digits in pairs decides.
+-- `hex_digits::is_hex`. The invariant: whether the rest is digits in pairs decides.
 -- Assumes nothing.
 use mathlib.Core.Path.{refl, sym, ◌∙◌}
 use Prim.Native.Nat.{◌+◌, ◌<◌}
 use lib.ListN.{length, get_or}
-use Rattle.hex.specs.Hex.{digit_of}
-use Rattle.hex.proofs.Pairs.{hex_odd, hex_first, hex_second, hex_both, hex_end}
+use Rattle.hex_digits.specs.Hex.{digit_of}
+use Rattle.hex_digits.proofs.Pairs.{hex_odd, hex_first, hex_second, hex_both, hex_end}
 use native.Mathlib.Omega.{arith}
 use borrow.Author.Rules.{rules}
-use Rattle.hex.proofs.is_hex.Goals as goal
+use Rattle.hex_digits.proofs.is_hex.Goals as goal
 
 pub loop-i-init : goal.loop-i-init
 loop-i-init c = (search rules, refl)

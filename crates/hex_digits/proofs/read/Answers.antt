@@ -1,13 +1,13 @@
--- `hex::read`. The invariant: the bytes left, written behind those written, give the whole.
+-- `hex_digits::read`. The invariant: the bytes left, written behind those written, give the whole.
 -- Assumes nothing.
 use mathlib.Core.Path.{◌≡◌, refl, ap, sym, ◌∙◌}
 use Prim.Native.Nat.{ℕ, ◌+◌, ◌*◌}
 use lib.ListN.{drop, length-set}
-use Rattle.hex.specs.Hex.{is_hex}
-use Rattle.hex.proofs.Pairs.{hex_digits, hex_next, hex_read}
+use Rattle.hex_digits.specs.Hex.{is_hex}
+use Rattle.hex_digits.proofs.Pairs.{hex_digits, hex_next, hex_read}
 use native.Mathlib.Omega.{arith}
 use borrow.Author.Rules.{rules}
-use Rattle.hex.proofs.read.Goals as goal
+use Rattle.hex_digits.proofs.read.Goals as goal
 
 pub loop-i-init : goal.loop-i-init
 loop-i-init c = (search rules, refl, c.requires.s_value, refl)

@@ -11,9 +11,9 @@ use borrow.Author.Tests.{lt-ltb, le-ltb, le-leb, lt-leb, ltb-true}
 use Rattle.base.proofs.Tests.{both}
 use Rattle.octets.specs.Octets.{write_at}
 use Rattle.octets.proofs.Lists.{drop_next}
-use Rattle.hex.specs.Hex.{digit_of, is_hex, bytes_of}
+use Rattle.hex_digits.specs.Hex.{digit_of, is_hex, bytes_of}
 use Rattle.octets.proofs.Laws.{write_none}
-use Rattle.hex.proofs.Writes.{write_next}
+use Rattle.hex_digits.proofs.Writes.{write_next}
 
 -- ---- one digit
 

@@ -18,7 +18,7 @@ fn of_written(out: &mut [u8], numbers: &[u64]) -> u32 {
 }
 
 pub fn of(numbers: &[u64]) -> u32 {
-    let mut out = io::large_buffer();
+    let mut out = [0u8; ROOM];
     if ROOM / 8 < numbers.len() {
         return 0;
     }

@@ -1,34 +1,38 @@
-// The pieces of an answer, written to standard output.
+// The pieces of an answer, written to whatever the program prints to.
 ghost use Rattle.std.specs.Prelude.{◌≡◌, ◌*◌, ◌≤◌, length};
 
-use libc::STDOUT_FILENO;
+use std::io;
+use std::io::Write;
 
-pub fn text(s: &[u8]) {
-    io::write_all(STDOUT_FILENO, s);
+// The digits of as many bytes as are written at once.
+const DIGITS: usize = 4096;
+
+pub fn text(to: &mut impl Write, s: &[u8]) -> io::Result<()> {
+    to.write_all(s)
 }
 
-pub fn number(v: u64) {
-    io::print_decimal(STDOUT_FILENO, v);
+pub fn number(to: &mut impl Write, v: u64) -> io::Result<()> {
+    write!(to, "{v}")
 }
 
 // A number behind others.
-pub fn next(v: u64) {
-    text(b"\t");
-    number(v);
+pub fn next(to: &mut impl Write, v: u64) -> io::Result<()> {
+    text(to, b"\t")?;
+    number(to, v)
 }
 
 // The digits of some bytes.
-pub fn digits(b: &[u8])
+pub fn digits(to: &mut impl Write, b: &[u8]) -> io::Result<()>
     requires { length b.now ≤ 2048 }
 {
-    let mut out = io::buffer();
+    let mut out = [0u8; DIGITS];
     let n = 2 * b.len();
-    spelled(b, &mut out[0..n]);
+    spelled(to, b, &mut out[0..n])
 }
 
-fn spelled(b: &[u8], out: &mut [u8])
+fn spelled(to: &mut impl Write, b: &[u8], out: &mut [u8]) -> io::Result<()>
     requires { length out.old ≡ 2 * length b.now }
 {
     hex_digits::spell(b, out);
-    text(out);
+    text(to, out)
 }

@@ -7,15 +7,6 @@ use Rattle.hex_digits.specs.Hex.{bytes_of}
 use Rattle.hex_digits.proofs.Pairs.{bytes_length}
 use Rattle.run_lines.proofs.digits.read.Goals as goal
 
-pub returns-then-s-out : goal.returns-then-s-out
-returns-then-s-out c = cc
-
-pub returns-then-s-ne0 : goal.returns-then-s-ne0
-returns-then-s-ne0 c = cc
-
-pub returns-then-not-is_hex : goal.returns-then-not-is_hex
-returns-then-not-is_hex c = cc
-
 pub read-requires : goal.read-requires
 read-requires c = record {
     s_value = sym c.is_hex.ensures ∙ c.if-not-is_hex.false;
@@ -25,4 +16,4 @@ read-requires c = record {
 pub returns : goal.returns
 returns c =
     let a = c.args in
-    c.read.ensures ∙ write_all (bytes_of a.s.now) a.out.now (bytes_length a.s.now ∙ c.if-s-out.false)
+    λ _. c.read.ensures ∙ write_all (bytes_of a.s.now) a.out.now (bytes_length a.s.now ∙ c.if-s-out.false)

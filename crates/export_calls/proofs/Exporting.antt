@@ -4,11 +4,8 @@
 use mathlib.Core.Path.{◌≡◌, refl, ap, ap₂, ◌∙◌}
 use mathlib.Core.Bool.{Bool, true, false, not, cond}
 use mathlib.Core.List.{List, [], ◌∷◌, ◌++◌}
-use mathlib.Core.Logic.{⊎_elim}
 use Prim.Native.Nat.{ℕ, ◌+◌}
 use native.Mathlib.Omega.{arith}
-use types.Run.{OneOf}
-use denote.Enum.Declared.{tag_of}
 use lib.ListN.{length}
 use lib.Dec.{eqb}
 use borrow.Author.Tests.{eqb-true, not-false, eq-eqb, ne_eqb}
@@ -32,7 +29,6 @@ use Rattle.cluster.specs.Effects.{Result, no_bytes, exported_pair}
 use Rattle.cluster.specs.Step.{effect, rest, step, if_ok, files_after}
 use Rattle.replica_checks.specs.declared.Heard.{Heard}
 use Rattle.replica_checks.specs.declared.Heard.TheVariants.{Silent, Declined, Mark}
-use Rattle.replica_checks.specs.contracts.Heard.{the_type}
 use Rattle.replica_checks.specs.Says.{says}
 use Rattle.replica.specs.Answers.{read_heard}
 use Rattle.checks.specs.Results.{files_of, export_of, declined_of}
@@ -113,11 +109,11 @@ module _ (r : Records) (s i : ℕ) (other : Bool) (new old : Files) where
   Made h o now = (o ≡ export_by r s i other h) × (now ≡ if_ok (reply_of o.answer) new old)
 
   -- no mark is heard
-  pub not_exported : (h : Heard) {o : Outcome} → OneOf (0 ∷ 1 ∷ []) (tag_of the_type h) → o ≡ read_by r s i no_bytes h → Made h o old
+  pub not_exported : (h : Heard) {o : Outcome} → ((n : ℕ) → h ≡ Mark n → ⊥) → o ≡ read_by r s i no_bytes h → Made h o old
   unfolding export_by read_by if_ok
   not_exported Silent t e = rw e (refl, refl)
   not_exported (Declined why) t e = rw e (refl, refl)
-  not_exported (Mark n) t e = absurd (⊎_elim (λ e. omega arith) (λ e. omega arith) t)
+  not_exported (Mark n) t e = absurd (t n refl)
 
   pub not_sized : {h : Heard} {n : ℕ} {o : Outcome} → h ≡ Mark n → true ≡ other → o ≡ declined_of r OutsideShape → Made h o old
   unfolding export_by read_by if_ok

@@ -4,7 +4,7 @@ use Rattle.hearing.proofs.Tags.{not_heard}
 use Rattle.hearing.proofs.hear.Goals as goal
 
 pub returns-in_default : goal.returns-in_default
-returns-in_default c = rw (c.no_mark.ensures, c.counted_if-w.ensures, c.with_unheard.ensures) (not_heard _ _ _ _ _ c.in_default.keys2)
+returns-in_default c = rw (c.no_mark.ensures, c.counted_if-w.ensures, c.with_unheard.ensures) (not_heard _ _ _ _ _ c.in_default.not-Mark)
 
 pub returns : goal.returns
 unfolding on_heard

@@ -8,4 +8,4 @@ unfolding on_heard
 returns-in-Declined c = rw (c.unchanged_server.ensures, c.in-Declined.is)
 
 pub returns : goal.returns
-returns c = not_declined _ _ _ c.in_default.keys2
+returns c = not_declined _ _ _ c.in_default.not-Declined

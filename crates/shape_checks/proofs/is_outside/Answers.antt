@@ -1,18 +1,17 @@
 -- `checks::is_outside`: each return is one of the cases of refusal 1, in the code's order; R and N bound the product (`media_fit`).
 use mathlib.Core.Path.{◌≡◌, sym, ◌∙◌}
 use mathlib.Core.Bool.{Bool, true, false, not}
-use borrow.Author.Tests.{not-true, not-false}
 use Rattle.shape_checks.proofs.Sizes.{replicas_le, at_most, media_fit, out_replicas, out_places, out_interval, out_media, by_tables}
 use native.Mathlib.Omega.{arith}
 use Rattle.shape_checks.proofs.is_outside.Goals as goal
 
 -- a test t of b that failed, and one that did not
 
-fails : {t b : Bool} → t ≡ b → not t ≡ true → b ≡ false
-fails e n = sym e ∙ not-true _ n
+fails : {t b : Bool} → t ≡ b → t ≡ false → b ≡ false
+fails e n = sym e ∙ n
 
-holds : {t b : Bool} → t ≡ b → not t ≡ false → b ≡ true
-holds e n = sym e ∙ not-false _ n
+holds : {t b : Bool} → t ≡ b → t ≡ true → b ≡ true
+holds e n = sym e ∙ n
 
 pub returns-then-not-replicas_fit : goal.returns-then-not-replicas_fit
 returns-then-not-replicas_fit c =

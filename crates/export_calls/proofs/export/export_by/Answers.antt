@@ -7,7 +7,7 @@ use Rattle.export_calls.proofs.export.export_by.Goals as goal
 pub returns-in_default : goal.returns-in_default
 returns-in_default c =
     let a = c.args in
-    not_exported a.records a.s a.i _ _ (files_of a.file.now a.index.now) a.heard c.in_default.keys2 c.read_by.ensures
+    not_exported a.records a.s a.i _ _ (files_of a.file.now a.index.now) a.heard c.in_default.not-Mark c.read_by.ensures
 
 pub other_sizes-requires : goal.other_sizes-requires
 other_sizes-requires c =

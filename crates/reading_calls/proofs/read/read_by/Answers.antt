@@ -4,7 +4,7 @@ use Rattle.hearing.proofs.Tags.{not_read}
 use Rattle.reading_calls.proofs.read.read_by.Goals as goal
 
 pub returns-in_default : goal.returns-in_default
-returns-in_default c = rw (c.settle.ensures, c.no_mark-c.ensures, c.with_unheard.ensures) (not_read _ _ _ _ _ c.in_default.keys2)
+returns-in_default c = rw (c.settle.ensures, c.no_mark-c.ensures, c.with_unheard.ensures) (not_read _ _ _ _ _ c.in_default.not-Mark)
 
 pub returns : goal.returns
 unfolding read_by

@@ -1,12 +1,7 @@
 -- `calls::served`, by its plan: refused, the server stays; else the operation fits the medium (`fits_kind`) and is delivered, with the
 -- record that `record_of` finds.
 use Rattle.replica_calls.proofs.ByKind.{plan_refuses, plan_does, fits_kind}
-use borrow.Author.Rules.{rules}
 use Rattle.replica_calls.proofs.calls.served.Goals as goal
-
-record-of-requires : tie.Need-record-of-requires
-
-record-of-requires c κs = search rules
 
 pub deliver-requires : goal.deliver-requires
 deliver-requires c =

@@ -1,6 +1,6 @@
 -- A search, one element on: what is behind the hit, and what is behind an element that is none.
 -- Assumes nothing.
-use Rattle.std.proofs.Common.{◌≡◌, ◌≢◌, List, [], ◌∷◌, Bool, true, false, ℕ, suc, ◌+◌, ◌-◌, ◌<◌, ◌≤◌, length, get_or, take, drop, eqb, refl, sym, ap, ◌∙◌, arith, length-take, length-drop, drop-cons, get_or-take, drop_of_length-le}
+use Rattle.std.proofs.Common.{◌≡◌, ◌≢◌, List, ◌∷◌, ℕ, suc, ◌<◌, ◌≤◌, length, get_or, take, drop, ap, ◌∙◌, arith, length-take, drop-cons, get_or-take, drop_of_length-le}
 use borrow.Author.Tests.{eq-eqb, ne_eqb}
 use Rattle.byte_search.specs.Bytes.{index_of, index_after, slice}
 

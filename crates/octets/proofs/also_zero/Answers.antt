@@ -1,4 +1,3 @@
-
 use Rattle.octets.proofs.also_zero.Goals as goal
 
 pub returns-then-ok : goal.returns-then-ok

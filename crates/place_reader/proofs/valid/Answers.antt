@@ -14,9 +14,9 @@ returns-then-not-fields_fit c = sym (c.fields_fit.ensures.0 ∙ ap (λ (b : Bool
 pub check-requires : goal.check-requires
 check-requires c =
     let l = (c.fields_fit.ensures.1 c.if-not-fields_fit.false).0 in record {
-    t_value = c.requires;
-    k_in_bounds = omega (arith, l);
-  }
+      t_value = c.requires;
+      k_in_bounds = omega (arith, l);
+    }
 
 pub returns : goal.returns
 returns c = c.check.ensures

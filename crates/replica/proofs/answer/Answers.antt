@@ -44,7 +44,7 @@ mark_after-requires c =
     t_value = p.t_value;
     m_len = omega (arith, c.perform.auto.m, p.medium.size, d.0);
     mark_known = known_mark r a.places a.m.now d.0 d.1 a.f a.given.now a.session a.recorded a.op a.src.now _ p.src_len.0 p.has_place.0 p.has_place.1
-            (sym j ∙ c.if1.false) w (sym c.answers.ensures ∙ c.if2.true);
+            (sym j ∙ c.if-j.false) w (sym c.answers.ensures ∙ c.if-answers.true);
   }
 
 pub returns-then-answers : goal.returns-then-answers
@@ -55,7 +55,7 @@ returns-then-answers c =
     let j = rw c.is_prepare.ensures at c.judged-j.ensures.0 in
     let w = c.perform.ensures ∙ ap (λ (n : ℕ). after a.f a.given.now (writes_of n a.src.now a.op a.m.now) a.m.now) d.0 in
     performing r a.places a.m.now d.0 d.1 a.f a.given.now a.session a.recorded a.op a.src.now _ _
-    (sym j ∙ c.if1.false) w (heard_mark a.f _ _ _ _ (sym c.answers.ensures ∙ c.if2.true) d.0 c.mark_after.ensures)
+    (sym j ∙ c.if-j.false) w (heard_mark a.f _ _ _ _ (sym c.answers.ensures ∙ c.if-answers.true) d.0 c.mark_after.ensures)
 
 pub returns : goal.returns
 returns c =

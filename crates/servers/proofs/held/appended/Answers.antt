@@ -20,15 +20,14 @@ room others held a b =
 pub slice_bounds-next-end-2 : goal.slice_bounds-next-end-2
 slice_bounds-next-end-2 c =
     room c.copy.new.dst c.args.held
-    (omega (arith, c.copy.auto)) (omega (arith, c.well-formed))
+    (omega (arith, c.copy.auto)) (omega (arith, c.well_formed))
 
 pub returns : goal.returns
 returns c =
-    let d = c in
-    let a = d.before.before.before.before.before.args in
-    let size : length a.t2 ≡ held_size = omega (arith, d.before.before.before.before.before.well-formed) in
-    in_place a.t2 (record_bytes a.fields a.content.now) size
+    let a = c.args in
+    let size : length a.held ≡ held_size = omega (arith, c.well_formed) in
+    in_place a.held (record_bytes a.fields a.content.now) size
     (sym (ap length c.encode.ensures) ∙ omega (arith, c.encode.auto))
-    d.copy.new.0 c.encode.new.out
-    (d.copy.ensures ∙ take_all (held_size - place_size) (drop place_size a.t2) (omega (arith, size, length-drop place_size a.t2)))
+    c.copy.new.dst c.encode.new.out
+    (c.copy.ensures ∙ take_all (held_size - place_size) (drop place_size a.held) (omega (arith, size, length-drop place_size a.held)))
     c.encode.ensures

@@ -1,12 +1,7 @@
 -- `start`: records, media and tables, each fresh.
 -- Assumes nothing.
 use Rattle.cluster.specs.State.{fresh}
-use borrow.Author.Rules.{rules}
 use Rattle.fresh.proofs.start.Goals as goal
-
-records-requires : tie.Need-records-requires
-
-records-requires c κs = search rules
 
 pub returns : goal.returns
 unfolding fresh

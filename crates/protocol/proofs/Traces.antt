@@ -9,7 +9,7 @@ use native.Mathlib.Decide.{dec_le}
 use Rattle.protocol.specs.Columns.{count}
 use Rattle.protocol.specs.State.{Tx, Opening, Open, State, Content}
 use Rattle.protocol.specs.Marks.{flagged?, unflagged?, above?, reaches?, voter, Decided, Reached}
-use Rattle.protocol.specs.Events.{after_take_lem, after_promise, after_cut, after_learn, after_forget, after_copy, after_trim, after_open, after_issue, after_append, after_hear, after_acknowledge, after_note, after_restore, Can-copy, Can-trim, Can-open, Can-issue, Can-append, Can-hear, Can-acknowledge, Can-note, Can-restore, Step, Steps, ◌▸◌}
+use Rattle.protocol.specs.Events.{after_take, after_promise, after_cut, after_learn, after_forget, after_copy, after_trim, after_open, after_issue, after_append, after_hear, after_acknowledge, after_note, after_restore, Can-copy, Can-trim, Can-open, Can-issue, Can-append, Can-hear, Can-acknowledge, Can-note, Can-restore, Step, Steps, ◌▸◌}
 use Rattle.protocol.proofs.Columns.{upd_same, upd²_at, append_up}
 use Rattle.protocol.proofs.Counting.{count_mono, count_split}
 use Rattle.protocol.proofs.Invariant.{Inv}
@@ -17,7 +17,7 @@ use Rattle.protocol.proofs.Facts.{not_both, unrestored}
 
 -- ---- take and open
 
-pub take_answered : (σ : State) → Steps σ (after_take_lem σ)
+pub take_answered : (σ : State) → Steps σ (after_take σ)
 take_answered σ = Steps.none ▸ Step.take σ
 
 pub open_answered : (σ : State) (s D a : ℕ) → Can-open σ s D a → Steps σ (after_open σ s D a)

@@ -39,8 +39,8 @@ use Rattle.protocol.specs.Marks.{flagged?, Decided, clean, Reached}
 
 -- ---- take: "raises the session by 1, hands the server that number, the generation and the entries; the server is opening and knows no replica"
 
-abbrev pub after_take_lem : State → State
-after_take_lem σ =
+abbrev pub after_take : State → State
+after_take σ =
     let s = suc σ.session in
     let registered = with_register σ s σ.newest σ.unresolved σ.closing σ.restored in
     let served = with_servers registered (upd σ.phase s Opening) σ.known σ.recorded in
@@ -225,7 +225,7 @@ Can-restore σ = Saved σ.opened σ.start σ.log σ.session
 -- ---- an event, and a list of events
 
 pub data Step : State → State → Type 0 where
-  take : (σ : State) → Step σ (after_take_lem σ)
+  take : (σ : State) → Step σ (after_take σ)
   promise : (σ : State) (s i : ℕ) → Can-promise σ s i → Step σ (after_promise σ s i)
   cut : (σ : State) (s i k : ℕ) → Can-cut σ s i k → Step σ (after_cut σ i k)
   learn : (σ : State) (s i : ℕ) → Can-learn σ s i → Step σ (after_learn σ s i)

@@ -10,7 +10,7 @@ use borrow.Author.Tests.{eqb-false}
 use Rattle.fate.specs.declared.Fate.{Fate}
 use Rattle.fate.specs.declared.Fate.TheVariants.{Answered, Lost, AnswerLost, Cut}
 use Rattle.protocol.specs.State as protocol
-use Rattle.protocol.specs.Events.{after_take_lem, Steps}
+use Rattle.protocol.specs.Events.{after_take, Steps}
 use Rattle.protocol.proofs.Columns.{upd_same, upd_other}
 use Rattle.protocol.proofs.Traces.{take_answered}
 use Rattle.cluster.specs.declared.Shape.{Shape}
@@ -38,7 +38,7 @@ module _ (h : Shape) (x : State) (H : History) (σ : protocol.State) (beside : E
   g = x.records.register
 
   abbrev τ : protocol.State
-  τ = after_take_lem σ
+  τ = after_take σ
 
   abbrev z : ℕ
   z = suc σ.session
@@ -154,12 +154,12 @@ pub take_played : (h : Shape) (x : State) (H : History) (σ : protocol.State) (b
     → Before h x H σ (with_call_lem (call.Take s f) beside) → Played h x H σ (with_call_lem (call.Take s f) beside)
 unfolding take_effect told
 take_played h x H σ beside s Answered B =
-    rw (B.passed 21) (after_take_lem σ, take_answered σ, answered h x H σ beside s Answered B (B.passed 21))
+    rw (B.passed 21) (after_take σ, take_answered σ, answered h x H σ beside s Answered B (B.passed 21))
 take_played h x H σ beside s Lost B = (σ, Steps.none, lost h x H σ beside s Lost B (H.current s))
 take_played h x H σ beside s AnswerLost B = go (session_at_top x.records.register.session) refl
   where
     go : (b : Bool) → session_at_top x.records.register.session ≡ b
         → Played h x H σ (with_call_lem (call.Take s AnswerLost) beside)
     go true e = rw e (σ, Steps.none, lost h x H σ beside s AnswerLost B (H.current s))
-    go false e = rw e (after_take_lem σ, take_answered σ, unanswered h x H σ beside s AnswerLost B e (H.current s))
+    go false e = rw e (after_take σ, take_answered σ, unanswered h x H σ beside s AnswerLost B e (H.current s))
 take_played h x H σ beside s (Cut w l) B = absurd (true≢false (B.passed 6))

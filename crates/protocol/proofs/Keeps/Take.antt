@@ -6,7 +6,7 @@ use mathlib.Core.Bool.{true}
 use Prim.Native.Nat.{ℕ, suc}
 use native.Mathlib.Omega.{arith}
 use Rattle.protocol.specs.State.{Phase, Opening, Open, State}
-use Rattle.protocol.specs.Events.{after_take_lem}
+use Rattle.protocol.specs.Events.{after_take}
 use Rattle.protocol.proofs.Columns.{upd_elim, upd_at, upd_other}
 use Rattle.protocol.proofs.Invariant.{TakenIn, Inv}
 use Rattle.protocol.proofs.Facts.{not_both, opening≢open}
@@ -17,7 +17,7 @@ module _ (σ : State) (I : Inv σ) where
   s = suc σ.session
 
   abbrev τ : State
-  τ = after_take_lem σ
+  τ = after_take σ
 
   -- an opening session is the new one, or was opening
   cases : (t : ℕ) → τ.phase t ≡ Opening → (s ≡ t) ⊎ ((s ≢ t) × (σ.phase t ≡ Opening))
@@ -60,7 +60,7 @@ module _ (σ : State) (I : Inv σ) where
         marked = f.marked;
       })
 
-  pub take_inv : Inv (after_take_lem σ)
+  pub take_inv : Inv (after_take σ)
   take_inv = record {
     quorum = I.quorum;
     numbers = record {

@@ -13,7 +13,7 @@ unfolding hex_of
 loop-i-init c = (search rules, refl, refl)
 
 pub glyph-requires : goal.glyph-requires
-glyph-requires c = omega (arith, c.shared_slice_known-in-loop-i-1.given c.loop-i.i)
+glyph-requires c = omega (arith, c.type_inv.b c.loop-i.i)
 
 pub bounds-out-i-in-loop-i : goal.bounds-out-i-in-loop-i
 bounds-out-i-in-loop-i c = simp length-set (omega arith)

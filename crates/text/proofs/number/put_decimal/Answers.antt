@@ -12,18 +12,18 @@ use Rattle.text.proofs.number.put_decimal.Goals as goal
 pub put-requires : goal.put-requires
 put-requires c =
     let a = c.args in
-    let d = c.decimal in
-    let h = few_digits a.v d.result c.ranges.v.fits d.ensures.1.0 in
+    let d = c.decimal-n in
+    let h = few_digits a.v d.result c.ranges.v.fits d.ensures.len in
     simp length-take (omega arith)
 
 pub returns : goal.returns
 returns c =
     let a = c.args in
-    let d = c.decimal in
-    let h = few_digits a.v d.result c.ranges.v.fits d.ensures.1.0 in
-    let e = d.ensures.1.1 ∙ spelled_is 20 d.result a.v h d.ensures.1.0 in
+    let d = c.decimal-n in
+    let h = few_digits a.v d.result c.ranges.v.fits d.ensures.len in
+    let e = d.ensures.digits ∙ spelled_is 20 d.result a.v h d.ensures.len in
     let q : d.result - 0 ≡ d.result = omega arith in record {
-    upper_bound = h;
-    value = d.ensures.0.1 ∙ ap length e;
-    out_after = c.put.ensures ∙ ap (λ (l : List ℕ). write_at a.at l a.out.now) (ap (λ (k : ℕ). take k d.new.1.0) q ∙ e);
-  }
+      upper_bound = h;
+      value = d.ensures.in_bounds.1 ∙ ap length e;
+      out_after = c.put.ensures ∙ ap (λ (l : List ℕ). write_at a.at l a.out.now) (ap (λ (k : ℕ). take k d.new.out) q ∙ e);
+    }

@@ -22,9 +22,9 @@ pub step-requires : goal.step-requires
 step-requires c =
     let a = c.args in
     let l = c.loop-j in record {
-    t_value = c.requires.t_value;
-    wide_in_bounds = omega (arith, within a.size l.j c.loop-j-test.true, l.invariant.1, c.requires);
-  }
+      t_value = c.requires.t_value;
+      wide_in_bounds = omega (arith, within a.size l.j c.loop-j-test.true, l.invariant.1, c.requires);
+    }
 
 pub overflow_add-a : goal.overflow_add-a
 overflow_add-a c =

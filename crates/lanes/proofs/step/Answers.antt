@@ -9,9 +9,9 @@ use Rattle.lanes.proofs.step.Goals as goal
 
 pub eight-requires : goal.eight-requires
 eight-requires c = record {
-    t_value = c.requires.t_value;
-    at_in_bounds = rw c.if-wide.true at c.requires.wide_in_bounds;
-  }
+  t_value = c.requires.t_value;
+  at_in_bounds = rw c.if-wide.true at c.requires.wide_in_bounds;
+}
 
 pub returns-then-wide : goal.returns-then-wide
 returns-then-wide c =
@@ -20,9 +20,9 @@ returns-then-wide c =
 
 pub four-requires : goal.four-requires
 four-requires c = record {
-    t_value = c.requires.t_value;
-    at_in_bounds = rw c.if-wide.false at c.requires.wide_in_bounds;
-  }
+  t_value = c.requires.t_value;
+  at_in_bounds = rw c.if-wide.false at c.requires.wide_in_bounds;
+}
 
 pub returns : goal.returns
 returns c =

@@ -1,5 +1,4 @@
 -- `place::valid`: what fits, and the check.
-use borrow.Author.Tests.{not-true, not-false}
 use mathlib.Core.Path.{sym, ap, ◌∙◌}
 use mathlib.Core.Bool.{Bool, ◌&&◌}
 use Rattle.crc32.specs.Crc32.{checked}
@@ -14,9 +13,9 @@ returns-then-not-fields_fit c = sym (c.fields_fit.ensures.0 ∙ ap (λ (b : Bool
 pub check-requires : goal.check-requires
 check-requires c =
     let l = (c.fields_fit.ensures.1 c.if-not-fields_fit.false).0 in record {
-    t_value = c.requires;
-    k_in_bounds = omega (arith, l);
-  }
+      t_value = c.requires;
+      k_in_bounds = omega (arith, l);
+    }
 
 pub returns : goal.returns
 returns c = c.check.ensures

@@ -23,9 +23,9 @@ pub valid-requires : goal.valid-requires
 valid-requires c =
     let a = c.args in
     let l = c.loop-n in record {
-    t_value = c.requires.t_value;
-    s_len = ap length (place_here l.n l.a a.m.now l.invariant.1) ∙ length_old a.places l.n a.m.now c.loop-n-test.true (sym c.requires.m_len);
-  }
+      t_value = c.requires.t_value;
+      s_len = ap length (place_here l.n l.a a.m.now l.invariant.1) ∙ length_old a.places l.n a.m.now c.loop-n-test.true (sym c.requires.m_len);
+    }
 
 pub returns-then-not-valid : goal.returns-then-not-valid
 returns-then-not-valid c =
@@ -43,11 +43,11 @@ renew-requires c =
     let m = a.m.now in
     let here = place_here l.n l.a m l.invariant.1 in
     let size = length_between l.b (l.b + place_size) l.out (omega arith) (omega (arith, l.invariant, c.requires.out_len, c.loop-n-test.true)) in record {
-    t_value = c.requires.t_value;
-    out_len = size ∙ omega arith;
-    s_len = ap length here ∙ length_old a.places l.n m c.loop-n-test.true (sym c.requires.m_len);
-    s_bound = valid_short (l.n + 1) _ (sym c.valid.ensures ∙ c.if-not-valid.false);
-  }
+      t_value = c.requires.t_value;
+      out_len = size ∙ omega arith;
+      s_len = ap length here ∙ length_old a.places l.n m c.loop-n-test.true (sym c.requires.m_len);
+      s_bound = valid_short (l.n + 1) _ (sym c.valid.ensures ∙ c.if-not-valid.false);
+    }
 
 pub loop-n-preserved : goal.loop-n-preserved
 loop-n-preserved c =

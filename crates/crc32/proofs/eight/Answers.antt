@@ -11,7 +11,7 @@ use Rattle.crc32.proofs.eight.Goals as goal
 pub returns : goal.returns
 returns c =
     let a = c.args in
-    let b = bytes_known a.s.now (λ i. (c.shared_slice_known-1.given i).fits) in
+    let b = bytes_known a.s.now (λ i. (c.type_inv.s i).fits) in
     c.look_up.ensures
     ∙ ap₂ (λ (h l : ℕ). bit_xor h (bit_steps 64 (bit_xor a.before l)))
     (c.look_up-upper.ensures ∙ ap (bit_steps 32) c.load.ensures)

@@ -11,6 +11,6 @@ use Rattle.crc32.proofs.four.Goals as goal
 pub returns : goal.returns
 returns c =
     let a = c.args in
-    let b = bytes_known a.s.now (λ i. (c.shared_slice_known-1.given i).fits) in
+    let b = bytes_known a.s.now (λ i. (c.type_inv.s i).fits) in
     c.look_up.ensures ∙ ap (λ (n : ℕ). bit_steps 32 (bit_xor a.before n)) c.load.ensures
     ∙ sym (four_in a.before a.at a.s.now b c.requires.at_in_bounds)

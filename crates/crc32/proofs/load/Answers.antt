@@ -15,21 +15,18 @@ use Rattle.crc32.proofs.load.Goals as goal
 pub loop-j-init : goal.loop-j-init
 loop-j-init c = (search rules, sym (le_end (part c.args.at 4 c.args.s.now) 4 (omega (arith, length_part c.args.at 4 c.args.s.now c.requires))))
 
-pub overflow_cast-b : goal.overflow_cast-b
-overflow_cast-b c = omega (arith, c.shared_slice_known-1.given (c.args.at + (c.loop-j.j - 1)))
-
 pub overflow_mul-v : goal.overflow_mul-v
 overflow_mul-v c =
     let a = c in
     let l = c.loop-j in
-    let b = bytes_known a.args.s.now (λ i. (c.shared_slice_known-1.given i).fits) in
+    let b = bytes_known a.args.s.now (λ i. (c.type_inv.s i).fits) in
     omega (arith, le_room a.args.at 4 l.j a.args.s.now b c.loop-j-test.true l.invariant.0 a.requires)
 
 pub overflow_add-v : goal.overflow_add-v
 overflow_add-v c =
     let a = c in
     let l = c.loop-j in
-    let b = bytes_known a.args.s.now (λ i. (c.shared_slice_known-1.given i).fits) in
+    let b = bytes_known a.args.s.now (λ i. (c.type_inv.s i).fits) in
     omega (arith, le_room a.args.at 4 l.j a.args.s.now b c.loop-j-test.true l.invariant.0 a.requires)
 
 pub loop-j-preserved : goal.loop-j-preserved

@@ -7,15 +7,11 @@ use lib.Bits.{bit_xor}
 use Rattle.crc32.specs.Crc32.{crc_from}
 use Rattle.crc32.proofs.Rows.{byte_step_lem}
 use Rattle.crc32.proofs.Words.{byte_in, none_in}
-use native.Mathlib.Omega.{arith}
 use borrow.Author.Rules.{rules}
 use Rattle.crc32.proofs.single.Goals as goal
 
 pub loop-i-init : goal.loop-i-init
 loop-i-init c = refl
-
-pub overflow_cast-x : goal.overflow_cast-x
-overflow_cast-x c = omega (arith, c.shared_slice_known-1.given c.loop-i.i)
 
 pub loop-i-preserved : goal.loop-i-preserved
 loop-i-preserved c =

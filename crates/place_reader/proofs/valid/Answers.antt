@@ -1,5 +1,4 @@
 -- `place::valid`: what fits, and the check.
-use borrow.Author.Tests.{not-true, not-false}
 use mathlib.Core.Path.{sym, ap, ◌∙◌}
 use mathlib.Core.Bool.{Bool, ◌&&◌}
 use Rattle.crc32.specs.Crc32.{checked}

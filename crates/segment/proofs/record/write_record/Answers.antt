@@ -16,7 +16,7 @@ use Rattle.segment.proofs.record.write_record.Goals as goal
 
 pub put-requires : goal.put-requires
 unfolding record_size
-put-requires c = omega (arith, length_part 0 numbers_size c.args.p.now (omega (arith, c.requires)), (c.requires.t_value, (c.requires.p_len, (c.requires.p_bound, c.requires.out_len))))
+put-requires c = omega (arith, length_part 0 numbers_size c.args.p.now (omega (arith, c.requires)), c.requires.p_len, c.requires.p_bound, c.requires.out_len)
 
 pub put_be-requires : goal.put_be-requires
 unfolding record_size
@@ -24,7 +24,7 @@ put_be-requires c = search rules
 
 pub put-requires-2 : goal.put-requires-2
 unfolding record_size
-put-requires-2 c = omega (arith, length_part numbers_size c.data_length.result c.args.p.now (omega (arith, c.requires, c.data_length.ensures)), (c.requires.t_value, (c.requires.p_len, (c.requires.p_bound, c.requires.out_len))), c.data_length.ensures)
+put-requires-2 c = omega (arith, length_part numbers_size c.data_length.result c.args.p.now (omega (arith, c.requires, c.data_length.ensures)), c.requires.p_len, c.requires.p_bound, c.requires.out_len, c.data_length.ensures)
 
 pub seal-requires : goal.seal-requires
 unfolding record_size

@@ -9,5 +9,5 @@ use Rattle.segment.proofs.header.write_header.Goals as goal
 pub returns : goal.returns
 returns c =
     let a = c.args in
-    let k : length a.z.key ≡ key_size = ? in
+    let k : length a.z.key ≡ key_size = omega arith in
     header_written a.z a.out.now _ _ _ _ _ _ c.requires k c.put_be.ensures c.put_be-2.ensures c.put.ensures c.put_be-3.ensures c.put_be-4.ensures c.clear.ensures

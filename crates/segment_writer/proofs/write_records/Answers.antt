@@ -46,7 +46,7 @@ overflow_add-end c =
     let p = c.requires in
     let l = c.loop-n in
     let s = size_turn a.k l.n l.a c.size_of.result a.m.now c.loop-n-test.true p.all_sized l.invariant.1 c.size_of.ensures in
-    omega (arith, s.0, s.1, l.invariant.3, l.invariant.5, p.file_len, c.well-formed)
+    omega (arith, s.0, s.1, l.invariant.3, l.invariant.5, p.file_len, c.well_formed)
 
 pub slice_bounds-write_record-end : goal.slice_bounds-write_record-end
 slice_bounds-write_record-end c =

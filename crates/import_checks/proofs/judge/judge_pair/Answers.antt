@@ -18,7 +18,7 @@ loop-n-init c =
     (search rules, refl, search rules, let q : a.count ≡ a.count - 0 = omega arith in ap (λ (k : ℕ). judged false 1 k (drop header_size a.index.now) header_size (drop header_size a.file.now)) q)
 
 pub overflow_add-e : goal.overflow_add-e
-overflow_add-e c = omega (arith, c.loop-n.invariant.1, c.loop-n-test.true, c.requires.index_len, c.well-formed)
+overflow_add-e c = omega (arith, c.loop-n.invariant.1, c.loop-n-test.true, c.requires.index_len, c.well_formed)
 
 pub slice_bounds-get_be-end : goal.slice_bounds-get_be-end
 slice_bounds-get_be-end c = omega (arith, c.loop-n.invariant.1, c.loop-n-test.true, c.requires.index_len)
@@ -74,7 +74,7 @@ overflow_add-at c =
     let l = c.loop-n in
     let w = size_there c.size_at-size.result (drop l.at a.file.now) c.size_at-size.ensures c.if-size-eq0.false in
     let g = within l.spoilt l.n l.at l.i a.count a.index.now a.file.now w.0 in
-    omega (arith, g.2, w.1, c.well-formed)
+    omega (arith, g.2, w.1, c.well_formed)
 
 pub loop-n-preserved : goal.loop-n-preserved
 unfolding judged

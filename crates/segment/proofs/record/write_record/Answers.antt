@@ -16,7 +16,7 @@ use Rattle.segment.proofs.record.write_record.Goals as goal
 
 pub put-requires : goal.put-requires
 unfolding record_size
-put-requires c = omega (arith, length_part 0 numbers_size c.args.p.now (omega (arith, c.requires)), (c.requires.t_value, (c.requires.p_len, (c.requires.p_bound, c.requires.out_len))))
+put-requires c = omega (arith, length_part 0 numbers_size c.args.p.now (omega (arith, c.requires)), c.requires.p_len, c.requires.p_bound, c.requires.out_len)
 
 pub put_be-requires : goal.put_be-requires
 unfolding record_size
@@ -24,7 +24,7 @@ put_be-requires c = search rules
 
 pub put-requires-2 : goal.put-requires-2
 unfolding record_size
-put-requires-2 c = omega (arith, length_part numbers_size c.data_length.result c.args.p.now (omega (arith, c.requires, c.data_length.ensures)), (c.requires.t_value, (c.requires.p_len, (c.requires.p_bound, c.requires.out_len))), c.data_length.ensures)
+put-requires-2 c = omega (arith, length_part numbers_size c.data_length.result c.args.p.now (omega (arith, c.requires, c.data_length.ensures)), c.requires.p_len, c.requires.p_bound, c.requires.out_len, c.data_length.ensures)
 
 pub seal-requires : goal.seal-requires
 unfolding record_size
@@ -40,7 +40,7 @@ returns c =
     let size : r ≡ size_of p = c.data_length.ensures in
     let same : take (numbers_size + r - numbers_size) (drop numbers_size p) ≡ data_of p = between_part numbers_size r p ∙ ap (λ (k : ℕ). part numbers_size k p) size in
     let end : 4 + (numbers_size + r) ≡ content_offset + size_of p = omega (arith, size) in
-    record_written p a.out.now _ _ _ _ (bytes_known p (λ i. (c.shared_slice_known-1.given i).fits)) q.p_len q.p_bound q.out_len
+    record_written p a.out.now _ _ _ _ (bytes_known p (search rules)) q.p_len q.p_bound q.out_len
     c.put.ensures
     (c.put_be.ensures ∙ ap (λ (v : ℕ). write_at numbers_size (be_bytes 4 v) c.put.new.m) (c.crc-sum.ensures ∙ ap crc_of same))
     (c.put-2.ensures ∙ ap (λ (d : List ℕ). write_at content_offset d c.put_be.new.m) same)

@@ -30,7 +30,7 @@ loop-n-init c =
     )
 
 pub overflow_add-e : goal.overflow_add-e
-overflow_add-e c = omega (arith, c.loop-n.invariant, c.requires.count_in_bounds, c.well-formed, c.loop-n-test.true)
+overflow_add-e c = omega (arith, c.loop-n.invariant, c.requires.count_in_bounds, c.well_formed, c.loop-n-test.true)
 
 pub slice_bounds-length_field-count : goal.slice_bounds-length_field-count
 slice_bounds-length_field-count c = c.loop-n.invariant.2
@@ -79,7 +79,7 @@ overflow_add-at c =
     let a = c.args in
     let l = c.loop-n in
     let w = this_record l.n a.count l.at a.file.now c.loop-n-test.true l.invariant.4 in
-    omega (arith, c.length_field.ensures ∙ ap size_of (to_end l.at a.file.now), size_is (drop l.at a.file.now), length-drop l.at a.file.now, w.whole, l.invariant.2, c.well-formed)
+    omega (arith, c.length_field.ensures ∙ ap size_of (to_end l.at a.file.now), size_is (drop l.at a.file.now), length-drop l.at a.file.now, w.whole, l.invariant.2, c.well_formed)
 
 pub loop-n-preserved : goal.loop-n-preserved
 loop-n-preserved c =

@@ -21,13 +21,13 @@ pub is_unready-requires : goal.is_unready-requires
 is_unready-requires c =
     let a = c.args in
     let f : Files = record { data_file = a.file.now; index_file = a.index.now } in
-    omega (arith, medium_fits a.places a.m.now a.z f (sym c.is_outside.ensures ∙ c.if1.false))
+    omega (arith, medium_fits a.places a.m.now a.z f (sym c.is_outside.ensures ∙ c.if-is_outside.false))
 
 pub returns-then-is_unready : goal.returns-then-is_unready
 returns-then-is_unready c =
     let a = c.args in
     let f : Files = record { data_file = a.file.now; index_file = a.index.now } in
-    let v = by_header a.places a.m.now a.z f (sym c.is_outside.ensures ∙ c.if1.false) (sym c.is_unready.ensures.0 ∙ c.if-is_unready.true) in
+    let v = by_header a.places a.m.now a.z f (sym c.is_outside.ensures ∙ c.if-is_outside.false) (sym c.is_unready.ensures.0 ∙ c.if-is_unready.true) in
     (v, stays a.places a.m.now a.z f 24 v)
 
 pub judge_pair-v-requires : goal.judge_pair-v-requires
@@ -35,7 +35,7 @@ judge_pair-v-requires c =
     let a = c.args in
     let f : Files = record { data_file = a.file.now; index_file = a.index.now } in record {
     t_value = c.tables-t.ensures;
-    index_len = index_fits a.places a.m.now a.z f (sym c.is_outside.ensures ∙ c.if1.false) ∙ ap index_size (sym c.offsets_in-count.ensures);
+    index_len = index_fits a.places a.m.now a.z f (sym c.is_outside.ensures ∙ c.if-is_outside.false) ∙ ap index_size (sym c.offsets_in-count.ensures);
     header_size_in_bounds = c.is_unready.ensures.1 c.if-is_unready.false;
   }
 
@@ -43,7 +43,7 @@ pub fill-requires : goal.fill-requires
 fill-requires c =
     let a = c.args in
     let f : Files = record { data_file = a.file.now; index_file = a.index.now } in
-    let small = sym c.is_outside.ensures ∙ c.if1.false in
+    let small = sym c.is_outside.ensures ∙ c.if-is_outside.false in
     let ready = sym c.is_unready.ensures.0 ∙ c.if-is_unready.false in
     let k = c.offsets_in-count.ensures in
     let said : judged_of c.offsets_in-count.result f ≡ ok = sym c.judge_pair-v.ensures ∙ ap reply_of c.in-Done.is in record {
@@ -57,7 +57,7 @@ pub returns-in-Done : goal.returns-in-Done
 returns-in-Done c =
     let a = c.args in
     let f : Files = record { data_file = a.file.now; index_file = a.index.now } in
-    let small = sym c.is_outside.ensures ∙ c.if1.false in
+    let small = sym c.is_outside.ensures ∙ c.if-is_outside.false in
     let ready = sym c.is_unready.ensures.0 ∙ c.if-is_unready.false in
     let k = c.offsets_in-count.ensures in
     let v = c.judge_pair-v.ensures ∙ ap (λ (j : ℕ). judged_of j f) k ∙ by_pass a.places a.m.now a.z f small ready in
@@ -67,7 +67,7 @@ pub returns-in_default : goal.returns-in_default
 returns-in_default c =
     let a = c.args in
     let f : Files = record { data_file = a.file.now; index_file = a.index.now } in
-    let small = sym c.is_outside.ensures ∙ c.if1.false in
+    let small = sym c.is_outside.ensures ∙ c.if-is_outside.false in
     let ready = sym c.is_unready.ensures.0 ∙ c.if-is_unready.false in
     let k = c.offsets_in-count.ensures in
     let v = c.judge_pair-v.ensures ∙ ap (λ (j : ℕ). judged_of j f) k ∙ by_pass a.places a.m.now a.z f small ready in

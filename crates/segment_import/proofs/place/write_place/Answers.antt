@@ -3,6 +3,7 @@ use native.Mathlib.Omega.{arith}
 use Rattle.octets.proofs.Bytes.{bytes_known}
 use Rattle.segment.proofs.Writing.{size_is}
 use Rattle.segment_import.proofs.Filling.{place_written}
+use borrow.Author.Rules.{rules}
 use Rattle.segment_import.proofs.place.write_place.Goals as goal
 
 pub length_field-k-requires : goal.length_field-k-requires
@@ -19,4 +20,4 @@ returns c =
     let a = c.args in
     let p = c.requires in
     let s = a.s.now in
-    place_written s a.out.now (bytes_known s (λ i. (c.shared_slice_known-1.given i).fits)) p.out_len p.s_bound p.s_in_bounds _ _ _ _ _ c.length_field-k.ensures c.put.ensures c.put-2.ensures c.clear.ensures c.seal.ensures
+    place_written s a.out.now (bytes_known s (search rules)) p.out_len p.s_bound p.s_in_bounds _ _ _ _ _ c.length_field-k.ensures c.put.ensures c.put-2.ensures c.clear.ensures c.seal.ensures

@@ -18,7 +18,6 @@ use Rattle.fate.specs.declared.Fate.{Fate}
 use Rattle.fate.specs.declared.Fate.TheVariants.{Answered, Lost, AnswerLost, Cut}
 use Rattle.fate.specs.Fates.{all_of, after}
 use Rattle.storage.specs.Sizes.{places_limit, place_size, medium_size, place_offset}
-use Rattle.storage.specs.declared.operation.Operation.TheVariants as op
 use Rattle.storage.specs.Log.{place_at}
 use Rattle.storage.specs.Operations.{medium_at}
 use Rattle.storage.proofs.Blocks.{place_same}

@@ -24,7 +24,7 @@ use Rattle.cluster.specs.declared.Server.{Server}
 use Rattle.cluster.specs.declared.Call.TheVariants as call
 use Rattle.cluster.specs.State.{State, server_at, mark_at, votes_at}
 use Rattle.cluster.specs.Replies.{ok, no, silent}
-use Rattle.cluster.specs.Refusals.{Input, replicas_fit, outside, mark_above, no_replica_at, only_opening, is_cut, undecided, vote_mark, too_few_clean, nothing_to_trim, session_differs, answered, seen, Row, row, phase_rows, replica_rows, message_rows, received_at, rows_of, pass, first_of}
+use Rattle.cluster.specs.Refusals.{Input, replicas_fit, outside, mark_above, no_replica_at, only_opening, is_cut, vote_mark, too_few_clean, nothing_to_trim, session_differs, answered, seen, Row, row, phase_rows, replica_rows, message_rows, received_at, rows_of, pass, first_of}
 use Rattle.cluster.specs.Effects.{Result, trim_effect, open_effect}
 use Rattle.cluster.specs.Step.{effect, unless, rest, step}
 use Rattle.cluster.proofs.Rows.{passed}

@@ -21,7 +21,6 @@ use Rattle.fate.specs.Fates.{Write}
 use Rattle.storage.specs.declared.place.Fields.{Fields}
 use Rattle.storage.specs.Sizes.{place_layout, data_limit, place_size, medium_size, place_offset}
 use Rattle.storage.specs.Places.{place_numbers, record_bytes, Fitting}
-use Rattle.storage.specs.declared.operation.Operation.TheVariants as op
 use Rattle.storage.specs.Slots.{current_of, stored_slot}
 use Rattle.storage.specs.Log.{place_at, mark_of}
 use Rattle.storage.specs.Operations.{medium_at, with_medium, prepare_writes, trim_writes, note_writes}

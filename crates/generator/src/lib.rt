@@ -2,7 +2,7 @@
 #![tactic(auto)]
 
 ghost use Rattle.std.specs.Prelude.{◌≡◌, ◌%◌, ◌<◌, ◌≤◌};
-ghost use Rattle.generator.specs.Load.{next as Load·next, draw, fate_of, take_call, prepare_call, copy_call, trim_call, open_call, issue_call, send_call, stop_call, call_of, made_of, bare_of};
+ghost use Rattle.generator.specs.Load.{next as next_of, draw, fate_of, take_call, prepare_call, copy_call, trim_call, open_call, issue_call, send_call, stop_call, call_of, made_of, bare_of};
 ghost use Rattle.lines.specs.Forms.{request_of};
 
 use cluster::{Call, Request};
@@ -22,7 +22,7 @@ const SUMMAND: u64 = 1442695040888963407;
 
 // The state behind a state.
 fn next(s: u64) -> u64
-    ensures { result ≡ Load·next s }
+    ensures { result ≡ next_of s }
 {
     std::num::wrapping_add_u64(wrapping::product(s, FACTOR), SUMMAND)
 }

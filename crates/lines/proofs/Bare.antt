@@ -12,9 +12,9 @@ use Rattle.text.specs.declared.number.Number.TheVariants.{Is, Unfit}
 use Rattle.text.specs.Text.{field_of, number_of}
 use Rattle.lines.specs.declared.values.FateField.{FateField}
 use Rattle.lines.specs.declared.values.FateField.TheVariants as field
-use Rattle.lines.specs.Words.{cluster_word, take_word, prep_word, copy_word, open_word, send_word, trim_word, stop_word}
+use Rattle.lines.specs.Words.{cluster_word, take_word, prep_word, copy_word, open_word, send_word}
 use Rattle.lines.specs.Values.{fate_of}
-use Rattle.lines.specs.Forms.{Meaning, bad, asked, number, fate, number_at, fate_at, cluster_form, server_fate, server_replica_fate, copy_form, stop_form, begins, from_stop, from_trim, from_send, from_open, from_copy, from_prepare, from_take, plain_form, data_of, locks_of}
+use Rattle.lines.specs.Forms.{Meaning, bad, asked, number, fate, number_at, fate_at, cluster_form, server_fate, server_replica_fate, copy_form, begins, from_send, from_open, from_copy, from_prepare, from_take, plain_form, data_of, locks_of}
 
 pub record Bare (m : Meaning) : Type 0 where
   pub content : data_of m ≡ []
@@ -59,17 +59,12 @@ module _ (s : List ℕ) where
   unfolding copy_form
   copy_bare = with_number 1 _ (λ v. with_number 2 _ (λ a. with_number 3 _ (λ b. with_fate 4 _ (λ f. no_more _))))
 
-  stop_bare : Bare (stop_form s)
-  stop_bare = with_number 1 _ (λ v. no_more _)
-
   pub plain_bare : Bare (plain_form s)
-  unfolding plain_form from_take from_prepare from_copy from_open from_send from_trim from_stop
+  unfolding plain_form from_take from_prepare from_copy from_open from_send
   plain_bare =
       either (begins s cluster_word 3) _ _ cluster_bare
       (either (begins s take_word 3) _ _ (one_bare call.Take)
       (either (begins s prep_word 4) _ _ (two_bare call.Prepare)
       (either (begins s copy_word 5) _ _ copy_bare
       (either (begins s open_word 3) _ _ (one_bare call.Open)
-      (either (begins s send_word 4) _ _ (two_bare call.Send)
-      (either (begins s trim_word 4) _ _ (two_bare call.Trim)
-      (either (begins s stop_word 2) _ _ stop_bare none)))))))
+      (either (begins s send_word 4) _ _ (two_bare call.Send) none)))))

@@ -23,14 +23,22 @@ use Rattle.lines.proofs.Bare.{Bare}
 
 -- d₀ and l₀ are the buffers before, d and l after
 abbrev pub Gives : Meaning → Line → List ℕ → List ℕ → List ℕ → List ℕ → Type 0
-Gives m r d₀ d l₀ l = (r ≡ line_of m) × ((d ≡ write_at 0 (data_of m) d₀) × (l ≡ write_at 0 (locks_of m) l₀))
+Gives m r d₀ d l₀ l = record {
+  value : r ≡ line_of m;
+  content_after : d ≡ write_at 0 (data_of m) d₀;
+  locks_after : l ≡ write_at 0 (locks_of m) l₀
+}
 
 pub gives_as : (m n : Meaning) (r : Line) (d₀ d l₀ l : List ℕ) → m ≡ n → Gives n r d₀ d l₀ l → Gives m r d₀ d l₀ l
 gives_as m n r d₀ d l₀ l e g = rw e g
 
 -- no data and no locks: the buffers stay
 pub gives_bare : (m : Meaning) (r : Line) (d l : List ℕ) → Bare m → r ≡ line_of m → Gives m r d d l l
-gives_bare m r d l b e = (e, (sym (ap (λ (x : List ℕ). write_at 0 x d) b.content ∙ write_none d 0), sym (ap (λ (x : List ℕ). write_at 0 x l) b.locks ∙ write_none l 0)))
+gives_bare m r d l b e = record {
+  value = e;
+  content_after = sym (ap (λ (x : List ℕ). write_at 0 x d) b.content ∙ write_none d 0);
+  locks_after = sym (ap (λ (x : List ℕ). write_at 0 x l) b.locks ∙ write_none l 0)
+}
 
 pub gives_bad : (m : Meaning) (d l : List ℕ) → m ≡ bad → Gives m line.Bad d d l l
 gives_bad m d l e = gives_as m bad line.Bad d d l l e (gives_bare bad line.Bad d l (record { content = refl; locks = refl }) refl)
@@ -52,7 +60,11 @@ module _ (s : List ℕ) (v : ℕ) (q : Request) (f : List ℕ) (p : f ≡ field_
         → Gives (data_then s v q) (line.Asked (call.Issue v q) (length f / 2) (n - 6)) d₀ d l₀ l
     gives_data d₀ d l₀ l k x y =
         gives_as (data_then s v q) (asked (call.Issue v q) (bytes_of f) (numbers_of (n - 6) t)) _ d₀ d l₀ l (both_there k)
-        (ap₂ (λ (i j : ℕ). line.Asked (call.Issue v q) i j) (sym (bytes_length f)) (sym (numbers_length (n - 6) t)), (x, y))
+        (record {
+          value = ap₂ (λ (i j : ℕ). line.Asked (call.Issue v q) i j) (sym (bytes_length f)) (sym (numbers_length (n - 6) t));
+          content_after = x;
+          locks_after = y
+        })
 
 -- ---- the whole line
 

@@ -2,10 +2,10 @@
 -- Assumes nothing.
 use mathlib.Core.Path.{◌≡◌, refl, sym, ap, ap₂, ◌∙◌}
 use mathlib.Core.List.{List, [], ◌∷◌}
-use mathlib.Core.Bool.{Bool, true, false, false≢true, not, cond, ◌&&◌}
+use mathlib.Core.Bool.{Bool, true, false, false≢true, cond, ◌&&◌}
 use Prim.Native.Nat.{ℕ}
 use lib.Dec.{eqb}
-use borrow.Author.Tests.{eqb-true, eq-eqb, not-true, not-false}
+use borrow.Author.Tests.{eqb-true, eq-eqb}
 use Rattle.base.proofs.Tests.{both}
 use Rattle.fate.specs.declared.Fate.{Fate}
 use Rattle.cluster.specs.declared.Call.{Call}
@@ -21,7 +21,7 @@ unfolding same
 same_refl [] = refl
 same_refl (a ∷ s) = rw (eq-eqb a a refl) (same_refl s)
 
-pub same_eq : (s t : List ℕ) → same s t ≡ true → s ≡ t
+same_eq : (s t : List ℕ) → same s t ≡ true → s ≡ t
 unfolding same
 same_eq [] [] h = refl
 same_eq [] (b ∷ t) h = absurd (false≢true h)
@@ -43,11 +43,11 @@ module _ (s w v : List ℕ) (n k : ℕ) (p : Split s v n) (r : Bool) (e : r ≡ 
   begun_is : begins s w k ≡ r
   begun_is = rw (← p.word, ← p.count) (sym e)
 
-  pub here : not r ≡ false → l ≡ line_of form → l ≡ line_of (cond (begins s w k) form next)
-  here h q = rw (begun_is, not-false r h) q
+  pub here : r ≡ true → l ≡ line_of form → l ≡ line_of (cond (begins s w k) form next)
+  here h q = rw (begun_is, h) q
 
-  pub onward : not r ≡ true → l ≡ line_of next → l ≡ line_of (cond (begins s w k) form next)
-  onward h q = rw (begun_is, not-true r h) q
+  pub onward : r ≡ false → l ≡ line_of next → l ≡ line_of (cond (begins s w k) form next)
+  onward h q = rw (begun_is, h) q
 
 -- the form that a link then reads, by the parts that it shares with others
 pub one_form : (s : List ℕ) (o p : One) (c : ℕ → Fate → Call) → ((c : ℕ → Fate → Call) → one_then o c ≡ server_fate s c) → o ≡ p → line_of (one_then p c) ≡ line_of (server_fate s c)

@@ -1,6 +1,6 @@
 -- The forms of a line and what a line of each asks for. Document 01, "Script program": "Fields: cluster R N; take server fate;
 -- prep server replica fate; copy server a b fate; open server fate; issue server client-mark generation header data-hex and then
--- each lock; send server replica fate." Document 02, No. 11: "the script form, which gains trim server replica fate and stop server".
+-- each lock; send server replica fate."
 -- Assumes nothing.
 use Rattle.std.specs.Prelude.{◌≡◌, List, [], Bool, cond, ◌&&◌, ℕ, ◌-◌, eqb, leb, length}
 use Rattle.fate.specs.declared.Fate.{Fate}
@@ -22,7 +22,7 @@ use Rattle.lines.specs.declared.forms.Two.{Two}
 use Rattle.lines.specs.declared.forms.Two.TheVariants as two
 use Rattle.lines.specs.declared.forms.Head.{Head}
 use Rattle.lines.specs.declared.forms.Head.TheVariants as head
-use Rattle.lines.specs.Words.{same, cluster_word, take_word, prep_word, copy_word, open_word, issue_word, send_word, trim_word, stop_word}
+use Rattle.lines.specs.Words.{same, cluster_word, take_word, prep_word, copy_word, open_word, issue_word, send_word}
 use Rattle.hex_digits.specs.Hex.{is_hex, bytes_of}
 use Rattle.lines.specs.Values.{fate_of, all_numbers, numbers_of}
 
@@ -66,17 +66,13 @@ cluster_form s = number_at 1 s (λ r. number_at 2 s (λ n. cluster r n))
 abbrev pub server_fate : List ℕ → (ℕ → Fate → Call) → Meaning
 server_fate s c = number_at 1 s (λ v. fate_at 2 s (λ f. asked (c v f) [] []))
 
--- "prep server replica fate", "send server replica fate", "trim server replica fate"
+-- "prep server replica fate", "send server replica fate"
 abbrev pub server_replica_fate : List ℕ → (ℕ → ℕ → Fate → Call) → Meaning
 server_replica_fate s c = number_at 1 s (λ v. number_at 2 s (λ i. fate_at 3 s (λ f. asked (c v i f) [] [])))
 
 -- "copy server a b fate"
 unfoldable pub copy_form : List ℕ → Meaning
 copy_form s = number_at 1 s (λ v. number_at 2 s (λ a. number_at 3 s (λ b. fate_at 4 s (λ f. asked (call.Copy v a b f) [] []))))
-
--- "stop server": stop sends no message, so that it has no fate
-abbrev pub stop_form : List ℕ → Meaning
-stop_form s = number_at 1 s (λ v. asked (call.Stop v) [] [])
 
 -- "issue fills client, partition and sequence with 0"; document 02, No. 6, in place of the client's 0: "the script fills in client 100", which is no gate
 abbrev pub request_of : ℕ → ℕ → ℕ → Request
@@ -106,14 +102,8 @@ begins s w n = same (field_of 0 s) w && eqb (field_count s) n
 abbrev pub tried : List ℕ → List ℕ → ℕ → Meaning → Meaning → Meaning
 tried s w n form next = cond (begins s w n) form next
 
-unfoldable pub from_stop : List ℕ → Meaning
-from_stop s = tried s stop_word 2 (stop_form s) bad
-
-unfoldable pub from_trim : List ℕ → Meaning
-from_trim s = tried s trim_word 4 (server_replica_fate s call.Trim) (from_stop s)
-
 unfoldable pub from_send : List ℕ → Meaning
-from_send s = tried s send_word 4 (server_replica_fate s call.Send) (from_trim s)
+from_send s = tried s send_word 4 (server_replica_fate s call.Send) bad
 
 unfoldable pub from_open : List ℕ → Meaning
 from_open s = tried s open_word 3 (server_fate s call.Open) (from_send s)

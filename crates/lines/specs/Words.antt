@@ -36,11 +36,3 @@ issue_word = 105 ∷ 115 ∷ 115 ∷ 117 ∷ 101 ∷ []
 -- "send"
 abbrev pub send_word : List ℕ
 send_word = 115 ∷ 101 ∷ 110 ∷ 100 ∷ []
-
--- "trim"
-abbrev pub trim_word : List ℕ
-trim_word = 116 ∷ 114 ∷ 105 ∷ 109 ∷ []
-
--- "stop"
-abbrev pub stop_word : List ℕ
-stop_word = 115 ∷ 116 ∷ 111 ∷ 112 ∷ []

@@ -6,7 +6,7 @@ ghost use Rattle.cluster.specs.declared.Call.{Call as ACall};
 ghost use Rattle.cluster.specs.declared.Request.{Request as ARequest};
 ghost use Rattle.text.specs.Text.{field_count};
 ghost use Rattle.lines.specs.Words.{same};
-ghost use Rattle.lines.specs.Forms.{Meaning, cluster_form, server_fate, server_replica_fate, copy_form, request_then, data_then, issue_form, from_stop, from_trim, from_send, from_open, from_copy, from_prepare, from_take, plain_form, meaning_of, line_limit, Split, line_of, data_of, locks_of, one_then, two_then, head_then};
+ghost use Rattle.lines.specs.Forms.{Meaning, cluster_form, server_fate, server_replica_fate, copy_form, request_then, data_then, issue_form, from_send, from_open, from_copy, from_prepare, from_take, plain_form, meaning_of, line_limit, Split, line_of, data_of, locks_of, one_then, two_then, head_then};
 
 use crate::values;
 use crate::values::FateField;
@@ -194,38 +194,12 @@ fn is(word: &[u8], w: &[u8], n: usize, fields: usize) -> bool
 // ---- The forms that have their number of fields, in links: each tries one form and hands the line on to the next. A line has n
 // fields, the first of them word.
 
-fn from_stop(line: &[u8], word: &[u8], n: usize) -> Line
-    requires { Split line.now word.now n }
-    ensures { result ≡ line_of (from_stop line.now) }
-{
-    if !is(word, b"stop", n, 2) {
-        return Line::Bad;
-    }
-    let Number::Is(server) = values::number_at(line, 1) else {
-        return Line::Bad;
-    };
-    Line::Asked(Call::Stop(server), 0, 0)
-}
-
-fn from_trim(line: &[u8], word: &[u8], n: usize) -> Line
-    requires { Split line.now word.now n }
-    ensures { result ≡ line_of (from_trim line.now) }
-{
-    if !is(word, b"trim", n, 4) {
-        return from_stop(line, word, n);
-    }
-    let Two::Are(server, i, f) = server_replica_fate(line) else {
-        return Line::Bad;
-    };
-    Line::Asked(Call::Trim(server, i, f), 0, 0)
-}
-
 fn from_send(line: &[u8], word: &[u8], n: usize) -> Line
     requires { Split line.now word.now n }
     ensures { result ≡ line_of (from_send line.now) }
 {
     if !is(word, b"send", n, 4) {
-        return from_trim(line, word, n);
+        return Line::Bad;
     }
     let Two::Are(server, i, f) = server_replica_fate(line) else {
         return Line::Bad;

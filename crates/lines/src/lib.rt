@@ -2,4 +2,4 @@
 #![tactic(auto)]
 
 pub mod forms;
-pub mod values;
+mod values;

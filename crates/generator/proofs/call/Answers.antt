@@ -1,7 +1,7 @@
 -- `call`: each arm is the element of `eight` that the drawn number names.
 -- Assumes nothing.
 use Rattle.std.proofs.Common.{◌≡◌, arith}
-use Rattle.generator.proofs.Chosen.{chosen, above}
+use Rattle.generator.proofs.Chosen.{chosen}
 use Rattle.generator.proofs.call.Goals as goal
 
 pub returns-in-0 : goal.returns-in-0
@@ -27,14 +27,5 @@ returns-in-6 c = chosen _ _ _ _ _ 6 _ c.next-a.ensures c.field.ensures.value c.i
 
 pub returns-in_default : goal.returns-in_default
 returns-in_default c =
-    let f = c.field in
-    let m = c.in_default.rest in
-    let d = f.result in
-    let one = above 0 d (omega arith) m.0.0.0.0.0.0.1 in
-    let two = above 1 d one m.0.0.0.0.0.1 in
-    let three = above 2 d two m.0.0.0.0.1 in
-    let four = above 3 d three m.0.0.0.1 in
-    let five = above 4 d four m.0.0.1 in
-    let six = above 5 d five m.0.1 in
-    let seven : d ≡ 7 = omega (arith, f.ensures.upper_bound, above 6 d six m.1) in
-    chosen _ _ _ _ _ 7 _ c.next-a.ensures f.ensures.value seven c.stop.ensures
+    let seven : c.field.result ≡ 7 = omega arith in
+    chosen _ _ _ _ _ 7 _ c.next-a.ensures c.field.ensures.value seven c.stop.ensures

@@ -1,6 +1,6 @@
 -- `fate`, by the number that is matched.
 -- Assumes nothing.
-use Rattle.std.proofs.Common.{ne_eqb}
+use Rattle.std.proofs.Common.{◌≡◌, arith}
 use Rattle.generator.specs.Load.{fate_of}
 use Rattle.generator.proofs.fate.Goals as goal
 
@@ -14,4 +14,4 @@ returns-in-1 c = rw (← c.field.ensures.value, c.in-1.is)
 
 pub returns-in_default : goal.returns-in_default
 unfolding fate_of
-returns-in_default c = rw (← c.field.ensures.value, ne_eqb _ 0 c.in_default.rest.0.1, ne_eqb _ 1 c.in_default.rest.1)
+returns-in_default c = let two : c.field.result ≡ 2 = omega arith in rw (← c.field.ensures.value, two)

@@ -2,7 +2,6 @@
 -- Assumes nothing.
 use mathlib.Core.Path.{sym, ap, ◌∙◌}
 use lib.ListN.{length}
-use borrow.Author.Tests.{not-true, not-false}
 use Rattle.text.proofs.Fields.{field_short, count_few}
 use Rattle.lines.proofs.Gives.{gives_bad, no_data, no_locks, gives_data}
 use native.Mathlib.Omega.{arith}

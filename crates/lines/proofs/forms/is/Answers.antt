@@ -1,6 +1,5 @@
 -- `forms::is`, by what `check::same` answers, which is whether the two texts are the same (`same_is`).
 -- Assumes nothing.
-use borrow.Author.Tests.{not-true, not-false}
 use Rattle.lines.proofs.Same.{same_is}
 use Rattle.lines.proofs.forms.is.Goals as goal
 

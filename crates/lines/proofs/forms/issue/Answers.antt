@@ -16,4 +16,4 @@ pub returns : goal.returns
 unfolding issue_form
 returns c =
     let k = data_then c.args.line.now in
-    gives_as _ _ _ _ _ _ _ (sym (c.request.ensures k) ∙ ap (λ (r : Head). head_then r k) c.in-Is.is) (c.beside.ensures.value, (c.beside.ensures.content_after, c.beside.ensures.locks_after))
+    gives_as _ _ _ _ _ _ _ (sym (c.request.ensures k) ∙ ap (λ (r : Head). head_then r k) c.in-Is.is) c.beside.ensures

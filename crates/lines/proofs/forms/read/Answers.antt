@@ -2,7 +2,6 @@
 -- Assumes nothing.
 use mathlib.Core.Bool.{true, false}
 use Prim.Native.Nat.{◌<◌, ◌≤◌}
-use borrow.Author.Tests.{not-true, not-false}
 use Rattle.text.specs.Text.{field_count}
 use Rattle.lines.specs.Words.{issue_word}
 use Rattle.lines.proofs.Same.{word_is}
@@ -32,4 +31,4 @@ returns c =
     let s = c.args.line.now in
     let w = word_is s issue_word _ c.same.result true c.field-word.ensures c.same.ensures.0 c.same.ensures.1 c.if-not-same.false in
     let n : 6 ≤ field_count s = omega (arith, c.count-n.ensures) in
-    gives_as _ _ _ _ _ _ _ (an_issue s c.if-line-gt-LIMIT.false w n) (c.issue.ensures.value, (c.issue.ensures.content_after, c.issue.ensures.locks_after))
+    gives_as _ _ _ _ _ _ _ (an_issue s c.if-line-gt-LIMIT.false w n) c.issue.ensures

@@ -1,7 +1,6 @@
 -- `groups::all_fit`. The invariant: j places fit, and the next begins at a.
 use mathlib.Core.Path.{sym, ap, ◌∙◌, subst}
 use mathlib.Core.Bool.{Bool, ◌&&◌}
-use borrow.Author.Tests.{not-false}
 use Prim.Native.Nat.{ℕ, ◌+◌, ◌-◌}
 use lib.Dec.{T}
 use lib.ListN.{take, drop}

@@ -9,6 +9,6 @@ agreeing-requires c =
     let x = c.args in
     let b = bytes_known x.s.now (search rules) in
     let f = c.all_fit.ensures c.if-not-all_fit.false in record {
-    s_len = search rules;
-    checks = by_lanes x.n x.s.now c.numbers-behind.result c.words.result b (search rules) f c.numbers-behind.ensures c.words.ensures;
-  }
+      s_len = search rules;
+      checks = by_lanes x.n x.s.now c.numbers-behind.result c.words.result b (search rules) f c.numbers-behind.ensures c.words.ensures;
+    }

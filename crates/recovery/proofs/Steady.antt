@@ -24,7 +24,6 @@ use Rattle.storage.specs.declared.slot.Slot.{Slot}
 use Rattle.storage.specs.declared.slot.Current.{Current}
 use Rattle.storage.specs.declared.operation.Target.{Target}
 use Rattle.storage.specs.declared.operation.Target.TheVariants.{Whole, Mark, LowWater}
-use Rattle.storage.specs.declared.operation.Operation.TheVariants as op
 use Rattle.storage.specs.Sizes.{place_size, medium_size}
 use Rattle.storage.specs.Slots.{current_of, stored_slot}
 use Rattle.storage.specs.Log.{place_at, mark_of}
@@ -39,7 +38,6 @@ use Rattle.cluster.specs.declared.Entry.{Entry}
 use Rattle.cluster.specs.declared.Register.{Register}
 use Rattle.cluster.specs.declared.Server.{Server}
 use Rattle.cluster.specs.declared.Records.{Records}
-use Rattle.cluster.specs.declared.Call.TheVariants as call
 use Rattle.cluster.specs.State.{State, no_server, idle_server, fresh_entry, server_at, entry_at, mark_at, member_at}
 use Rattle.cluster.specs.Refusals.{Input, outside, closing_fits, entries_fit, server_fits, mark_above, answered, is_open, session_at_top, refuses_prepare, refuses_at, rows_of, Verdict, pass, declined, first_of}
 use Rattle.cluster.specs.Effects.{with_replica, after_message, medium_after, with_medium_and_server, acknowledge, prepare_operation, arrives, raised_session, opening_server, prepare_effect, append_effect, take_effect}

@@ -6,9 +6,9 @@ pub unfit-requires : goal.unfit-requires
 unfit-requires c =
     let a = c.args in
     let p = c.requires in record {
-    t_value = p.t_value;
-    medium = record { few = p.named.few; size = lent_size a.shape.places a.from _ _ a.media.now (record { starts = c.span_of-span.ensures.0; ends = c.span_of-span.ensures.1 }) p.named.within };
-  }
+      t_value = p.t_value;
+      medium = record { few = p.named.few; size = lent_size a.shape.places a.from _ _ a.media.now (record { starts = c.span_of-span.ensures.0; ends = c.span_of-span.ensures.1 }) p.named.within };
+    }
 
 pub returns : goal.returns
 returns c =

@@ -7,11 +7,11 @@ pub answer-heard-requires : goal.answer-heard-requires
 answer-heard-requires c =
     let a = c.args in
     let p = c.requires in record {
-    t_value = p.t_value;
-    medium = record { few = p.named.few; size = lent_size a.shape.places a.i _ _ a.media.now (record { starts = c.span_of-span.ensures.0; ends = c.span_of-span.ensures.1 }) p.named.within };
-    has_place = p.has_place;
-    src_len = (search rules, search rules);
-  }
+      t_value = p.t_value;
+      medium = record { few = p.named.few; size = lent_size a.shape.places a.i _ _ a.media.now (record { starts = c.span_of-span.ensures.0; ends = c.span_of-span.ensures.1 }) p.named.within };
+      has_place = p.has_place;
+      src_len = (search rules, search rules);
+    }
 
 pub returns : goal.returns
 returns c =

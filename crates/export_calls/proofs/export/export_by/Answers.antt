@@ -12,10 +12,10 @@ returns-in_default c =
 pub other_sizes-requires : goal.other_sizes-requires
 other_sizes-requires c =
     let p = c.requires in record {
-    k_in_bounds = p.k_in_bounds.0;
-    all_sized = p.by_index _ c.in-Mark.is;
-    k_le_places_limit = p.k_in_bounds.1;
-  }
+      k_in_bounds = p.k_in_bounds.0;
+      all_sized = p.by_index _ c.in-Mark.is;
+      k_le_places_limit = p.k_in_bounds.1;
+    }
 
 pub returns-then-other_sizes : goal.returns-then-other_sizes
 returns-then-other_sizes c =
@@ -29,13 +29,13 @@ write_pair-requires c =
     let p = c.requires in
     let files = files_of a.file.now a.index.now in
     let l = exact a.k a.m.now files (sym (c.other_sizes.ensures files refl refl) ∙ c.if-other_sizes.false) in record {
-    t_value = p.t_value;
-    k_in_bounds = p.k_in_bounds.0;
-    all_sized = p.by_index _ c.in-Mark.is;
-    k_le_places_limit = p.k_in_bounds.1;
-    file_len = l.0;
-    index_len = l.1;
-  }
+      t_value = p.t_value;
+      k_in_bounds = p.k_in_bounds.0;
+      all_sized = p.by_index _ c.in-Mark.is;
+      k_le_places_limit = p.k_in_bounds.1;
+      file_len = l.0;
+      index_len = l.1;
+    }
 
 pub returns : goal.returns
 returns c =

@@ -24,11 +24,11 @@ export_by-requires c =
     let size = lent_size a.shape.places a.i _ _ a.media.now w p.named.0.within in
     let few = p.named.0.few in
     let mark = p.named.0.mark in record {
-    t_value = p.t_value;
-    s_bound = (p.named.1, omega (arith, p.named.0.replica, p.named.0.replicas));
-    k_in_bounds = (omega (arith, k, size, mark), omega (arith, k, few, mark));
-    by_index = λ n e. all_sized a.shape.places _ _ (omega (arith, k, heard_mark a.shape.places v.session (mark_at v a.i) n a.fate _ (sym c.read-heard.ensures ∙ e)));
-  }
+      t_value = p.t_value;
+      s_bound = (p.named.1, omega (arith, p.named.0.replica, p.named.0.replicas));
+      k_in_bounds = (omega (arith, k, size, mark), omega (arith, k, few, mark));
+      by_index = λ n e. all_sized a.shape.places _ _ (omega (arith, k, heard_mark a.shape.places v.session (mark_at v a.i) n a.fate _ (sym c.read-heard.ensures ∙ e)));
+    }
 
 pub returns : goal.returns
 returns c =

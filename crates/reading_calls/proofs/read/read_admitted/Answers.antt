@@ -12,9 +12,9 @@ read_sent-requires c =
     let p = c.requires in
     let e = holds_not (read_rows a.shape (server_at a.records a.s) a.i a.id a.fate a.given.now) c.check_read-k.ensures c.in-Pass.is 16 in
     let w = readable (server_at a.records a.s) a.i a.id e in record {
-    t_value = c.tables-t.ensures;
-    named = (p.0, p.1, w.0, omega (arith, w.1, p.0.mark));
-  }
+      t_value = c.tables-t.ensures;
+      named = (p.0, p.1, w.0, omega (arith, w.1, p.0.mark));
+    }
 
 pub returns-in-Refuse : goal.returns-in-Refuse
 returns-in-Refuse c =

@@ -7,16 +7,16 @@ pub read-heard-requires : goal.read-heard-requires
 read-heard-requires c =
     let a = c.args in
     let p = c.requires in record {
-    t_value = p.t_value;
-    medium = record { few = p.named.0.few; size = lent_size a.shape.places a.i _ _ a.media.now (record { starts = c.span_of-span.ensures.0; ends = c.span_of-span.ensures.1 }) p.named.0.within };
-  }
+      t_value = p.t_value;
+      medium = record { few = p.named.0.few; size = lent_size a.shape.places a.i _ _ a.media.now (record { starts = c.span_of-span.ensures.0; ends = c.span_of-span.ensures.1 }) p.named.0.within };
+    }
 
 pub place_of-place-requires : goal.place_of-place-requires
 place_of-place-requires c =
     let p = c.requires in record {
-    i_bound = (omega (arith, p.named.0.replica, p.named.0.replicas), p.named.2, p.named.3, p.named.0.few);
-    places_in_bounds = p.named.0.within;
-  }
+      i_bound = (omega (arith, p.named.0.replica, p.named.0.replicas), p.named.2, p.named.3, p.named.0.few);
+      places_in_bounds = p.named.0.within;
+    }
 
 pub returns : goal.returns
 returns c =

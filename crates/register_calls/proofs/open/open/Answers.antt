@@ -51,9 +51,9 @@ pub opened-requires : goal.opened-requires
 opened-requires c =
     let a = c.args in
     let k = admitted a.shape a.records a.media.now a.tables.now a.server [] (c.admit_server-k.ensures a.media.now a.tables.now refl refl) c.in_default.is in record {
-    r_bound = k.replicas;
-    clean_value = c.count_ballot-b.ensures.flags (not-false _ (holds_not _ c.judge-k.ensures c.in-Pass.is 8));
-  }
+      r_bound = k.replicas;
+      clean_value = c.count_ballot-b.ensures.flags (not-false _ (holds_not _ c.judge-k.ensures c.in-Pass.is 8));
+    }
 
 pub settle-requires : goal.settle-requires
 settle-requires c =

@@ -8,10 +8,10 @@ deliver-requires c =
     let a = c.args in
     let p = c.requires in
     let l = c.plan_of-plan.ensures in record {
-    t_value = c.tables-t.ensures;
-    named = p;
-    has_place = fits_kind a.kind a.shape a.v a.i _ a.fate a.given.now p l c.in-Do.is;
-  }
+      t_value = c.tables-t.ensures;
+      named = p;
+      has_place = fits_kind a.kind a.shape a.v a.i _ a.fate a.given.now p l c.in-Do.is;
+    }
 
 pub returns-in-Refuse : goal.returns-in-Refuse
 returns-in-Refuse c =

@@ -14,19 +14,19 @@ place_of-src-requires c =
     let p = c.requires in
     let e = holds_not (copy_rows a.shape a.v a.media.now a.from a.to a.fate a.given.now) c.check_copy-k.ensures c.in-Pass.is 16 in
     let l = copy_room (mark_at a.v a.to) (mark_at a.v a.from) a.shape.places e p.0.mark in record {
-    i_bound = ((omega (arith, p.0.replica, p.0.replicas)), (omega arith), (omega (arith, l)), p.0.few);
-    places_in_bounds = p.0.within;
-  }
+      i_bound = ((omega (arith, p.0.replica, p.0.replicas)), (omega arith), (omega (arith, l)), p.0.few);
+      places_in_bounds = p.0.within;
+    }
 
 pub deliver-requires : goal.deliver-requires
 deliver-requires c =
     let a = c.args in
     let p = c.requires in
     let e = holds_not (copy_rows a.shape a.v a.media.now a.from a.to a.fate a.given.now) c.check_copy-k.ensures c.in-Pass.is 16 in record {
-    t_value = c.tables-t.ensures;
-    named = p.1;
-    has_place = (copy_room (mark_at a.v a.to) (mark_at a.v a.from) a.shape.places e p.0.mark, refl);
-  }
+      t_value = c.tables-t.ensures;
+      named = p.1;
+      has_place = (copy_room (mark_at a.v a.to) (mark_at a.v a.from) a.shape.places e p.0.mark, refl);
+    }
 
 pub returns-in-Refuse : goal.returns-in-Refuse
 returns-in-Refuse c =

@@ -11,10 +11,13 @@ use Rattle.guarantee.specs.History.{Moment, beginning}
 use Rattle.guarantee.specs.Guarantee.{InRange}
 use Rattle.guarantee.specs.Recoveries.{Item, along_items, CoveredItems}
 use Rattle.guarantee.proofs.Whole.{Found, whole}
-use Rattle.guarantee.proofs.Once.{New, once}
-use Rattle.guarantee.proofs.Interval.{Within, interval}
+use Rattle.guarantee.specs.Once.{New}
+use Rattle.guarantee.proofs.Once.{once}
+use Rattle.guarantee.specs.Interval.{Within}
+use Rattle.guarantee.proofs.Interval.{interval}
 use Rattle.guarantee.proofs.InFlight.{Holding, in_flight}
-use Rattle.guarantee.proofs.Readers.{Unread, Waiting, Unlocked, readers}
+use Rattle.guarantee.specs.Readers.{Unread, Waiting, Unlocked}
+use Rattle.guarantee.proofs.Readers.{readers}
 use Rattle.guarantee.proofs.Recoveries.{over_items}
 
 -- ================ the statements

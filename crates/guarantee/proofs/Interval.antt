@@ -1,7 +1,4 @@
--- A SESSION ISSUES K IDS AT MOST: after every list of calls, an ID that an issue answers lies above the starting mark of the session that the server's
--- last take answered, and at most K above it: `interval`. Document 02, No. 1: "Once issued exceeds the starting mark by K, the server must open a new
--- session before issuing again". A session issues an ID once (Once.antt), so that its log holds K records of its own at most.
--- The statement comes first, then its proof.
+-- A SESSION ISSUES K IDS AT MOST: `interval`. The statement is specs/Interval.antt.
 -- Assumes nothing.
 use mathlib.Core.Path.{◌≡◌, ap, ◌∙◌}
 use mathlib.Core.List.{List, ◌∷◌}
@@ -21,25 +18,11 @@ use Rattle.cluster.proofs.Numbers.{ok_passes}
 use Rattle.cluster.proofs.Checkpoint.{within_interval}
 use Rattle.guarantee.specs.History.{Element, History, with_call, beginning, along}
 use Rattle.guarantee.specs.Guarantee.{InRange, CoveredAll}
+use Rattle.guarantee.specs.Interval.{Within, Interval}
 use Rattle.guarantee.proofs.Ties.{Sim}
 use Rattle.guarantee.proofs.Facts.{open_lives}
 use Rattle.guarantee.proofs.Passing.{below_four, passed, is_open_lem}
 use Rattle.guarantee.proofs.Along.{from_fresh}
-
--- ================ the statement
-
--- an issue call made in state x after history H, and the ID that it answers
-abbrev pub Within : Shape → State → History → Type 0
-Within h x H =
-    (s n : ℕ) (q : Request) (arguments : Input) (vs : List ℕ) → (step h x (with_call (call.Issue s q) arguments)).reply ≡ ok (n ∷ vs)
-    → let start = (H.sessions (H.current s)).start in
-    (start < n) × (n ≤ start + h.interval)
-
-abbrev pub Interval : Type 0
-Interval = (h : Shape) → InRange h → (es : List Element) → CoveredAll h (beginning h) es
-    → Within h (along h (beginning h) es).state (along h (beginning h) es).history
-
--- ================ its proof
 
 module _ (h : Shape) (x : State) (H : History) (σ : protocol.State) (S : Sim h x H σ) (I : Inv σ) where
   within : Within h x H

@@ -1,5 +1,5 @@
 -- OF SESSIONS NOTHING IS WRITTEN OVER: one is opened once, with nothing issued in it before, and it issues an ID once: `once`.
--- The statement comes first, then its proof.
+-- The statement is specs/Once.antt.
 -- Assumes nothing.
 use mathlib.Core.Path.{◌≡◌, refl, sym, ap, ◌∙◌}
 use mathlib.Core.Logic.{◌⊎◌, inl, inr}
@@ -23,29 +23,12 @@ use Rattle.cluster.specs.Step.{step}
 use Rattle.guarantee.specs.Registers.{changed}
 use Rattle.guarantee.specs.History.{Element, History, with_call, beginning, along, unopened as new-session}
 use Rattle.guarantee.specs.Guarantee.{InRange, CoveredAll}
+use Rattle.guarantee.specs.Once.{New, Once}
 use Rattle.guarantee.proofs.Ties.{Sim}
 use Rattle.guarantee.proofs.Facts.{opening_lives, open_lives}
 use Rattle.guarantee.proofs.Registers.{unchanged}
 use Rattle.guarantee.proofs.Passing.{below_four, Passes, step_passes, Refused, judged, passed, is_opening_lem, is_open_lem}
 use Rattle.guarantee.proofs.Along.{from_fresh}
-
--- ================ the statement
-
--- of a call with arguments p, made in state x after history H
-pub record New (h : Shape) (x : State) (H : History) (p : Input) : Type 0 where
-  -- where it opens a session, the session was not opened, and nothing was issued or acknowledged in it
-  pub opens : (s : ℕ) (f : Fate) → p.call ≡ call.Open s f → changed x.records.register (step h x p).state.records.register ≡ true
-      → H.sessions (H.current s) ≡ new-session
-  -- where it issues a record, there was none under this ID
-  pub issues : (s n : ℕ) (q : Request) (vs : List ℕ) → p.call ≡ call.Issue s q → (step h x p).reply ≡ ok (n ∷ vs)
-      → (H.sessions (H.current s)).issues n ≡ none
-
--- after every list of calls
-abbrev pub Once : Type 0
-Once = (h : Shape) → InRange h → (es : List Element) → CoveredAll h (beginning h) es
-    → (p : Input) → New h (along h (beginning h) es).state (along h (beginning h) es).history p
-
--- ================ its proof
 
 module _ (h : Shape) (x : State) (H : History) (σ : protocol.State) (S : Sim h x H σ) (I : Inv σ) (p : Input) (s : ℕ) where
   abbrev open_call_lem : Fate → Input

@@ -21,9 +21,9 @@ size_of-size-requires c =
     let p = c.requires in
     let l = c.loop-n in
     let e = place_here l.n l.a a.m.now l.invariant.1 in record {
-    p_len = ap length e ∙ length_place a.k l.n a.m.now c.loop-n-test.true p.k_in_bounds;
-    p_bound = rw e (p.all_sized (l.n + 1) (search rules) (search rules));
-  }
+      p_len = ap length e ∙ length_place a.k l.n a.m.now c.loop-n-test.true p.k_in_bounds;
+      p_bound = rw e (p.all_sized (l.n + 1) (search rules) (search rules));
+    }
 
 pub overflow_add-size : goal.overflow_add-size
 overflow_add-size c =

@@ -16,12 +16,12 @@ pub write_records-requires : goal.write_records-requires
 write_records-requires c =
     let a = c.args in
     let p = c.requires in record {
-    t_value = p.t_value;
-    k_in_bounds = p.k_in_bounds;
-    all_sized = p.all_sized;
-    file_len = same_len_mid 0 header_size a.file.now c.write_header.new.out c.write_header.auto.out ∙ p.file_len;
-    index_len = same_len_mid 0 header_size a.index.now c.write_header-2.new.out c.write_header-2.auto.out ∙ p.index_len;
-  }
+      t_value = p.t_value;
+      k_in_bounds = p.k_in_bounds;
+      all_sized = p.all_sized;
+      file_len = same_len_mid 0 header_size a.file.now c.write_header.new.out c.write_header.auto.out ∙ p.file_len;
+      index_len = same_len_mid 0 header_size a.index.now c.write_header-2.new.out c.write_header-2.auto.out ∙ p.index_len;
+    }
 
 pub returns : goal.returns
 unfolding pair_of

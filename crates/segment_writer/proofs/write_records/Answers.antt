@@ -36,9 +36,9 @@ size_of-requires c =
     let p = c.requires in
     let l = c.loop-n in
     let e = place_here l.n l.a a.m.now l.invariant.1 in record {
-    p_len = ap length e ∙ length_place a.k l.n a.m.now c.loop-n-test.true p.k_in_bounds;
-    p_bound = rw e (p.all_sized (l.n + 1) (search rules) (search rules));
-  }
+      p_len = ap length e ∙ length_place a.k l.n a.m.now c.loop-n-test.true p.k_in_bounds;
+      p_bound = rw e (p.all_sized (l.n + 1) (search rules) (search rules));
+    }
 
 pub overflow_add-end : goal.overflow_add-end
 overflow_add-end c =
@@ -64,11 +64,11 @@ write_record-requires c =
     let s = size_turn a.k l.n l.a c.size_of.result a.m.now c.loop-n-test.true p.all_sized l.invariant.1 c.size_of.ensures in
     let e = place_here l.n l.a a.m.now l.invariant.1 in
     let size = length_between l.at (l.at + c.size_of.result) l.file (omega arith) (omega (arith, s.0, l.invariant.3, l.invariant.5, p.file_len)) in record {
-    t_value = p.t_value;
-    p_len = ap length e ∙ length_place a.k l.n a.m.now c.loop-n-test.true p.k_in_bounds;
-    p_bound = rw e (p.all_sized (l.n + 1) (search rules) (search rules));
-    out_len = size ∙ omega arith ∙ c.size_of.ensures;
-  }
+      t_value = p.t_value;
+      p_len = ap length e ∙ length_place a.k l.n a.m.now c.loop-n-test.true p.k_in_bounds;
+      p_bound = rw e (p.all_sized (l.n + 1) (search rules) (search rules));
+      out_len = size ∙ omega arith ∙ c.size_of.ensures;
+    }
 
 pub put_be-requires : goal.put_be-requires
 put_be-requires c =

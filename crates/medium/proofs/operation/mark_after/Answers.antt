@@ -5,10 +5,10 @@ use Rattle.medium.proofs.operation.mark_after.Goals as goal
 pub mark_from-requires : goal.mark_from-requires
 mark_from-requires c =
     let p = c.requires in record {
-    t_value = p.t_value;
-    m_len = p.m_len;
-    known_bound = rw c.in-Append.is at p.mark_known;
-  }
+      t_value = p.t_value;
+      m_len = p.m_len;
+      known_bound = rw c.in-Append.is at p.mark_known;
+    }
 
 pub returns-in-Prepare : goal.returns-in-Prepare
 returns-in-Prepare c = c.closed_mark.ensures ∙ sym (rw c.in-Prepare.is at c.requires.mark_known)

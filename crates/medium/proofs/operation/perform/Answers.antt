@@ -4,11 +4,11 @@ use Rattle.medium.proofs.operation.perform.Goals as goal
 pub append-requires : goal.append-requires
 append-requires c =
     let p = c.requires in record {
-    as_read = p.as_read;
-    n_lt_places = rw c.in-Append.is at p.has_place;
-    src_len = p.src_len;
-    given_len = p.given_len;
-  }
+      as_read = p.as_read;
+      n_lt_places = rw c.in-Append.is at p.has_place;
+      src_len = p.src_len;
+      given_len = p.given_len;
+    }
 
 pub returns-in-Prepare : goal.returns-in-Prepare
 returns-in-Prepare c = rw c.in-Prepare.is c.prepare.ensures

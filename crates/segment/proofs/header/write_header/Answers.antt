@@ -1,5 +1,5 @@
 -- `header::write_header`: six writes, each behind the one before, are the header (`header_written`).
-use mathlib.Core.Path.{◌≡◌, sym}
+use mathlib.Core.Path.{◌≡◌}
 use lib.ListN.{length}
 use native.Mathlib.Omega.{arith}
 use Rattle.segment.specs.Header.{key_size}

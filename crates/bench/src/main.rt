@@ -4,7 +4,8 @@
 #![tactic(auto)]
 
 use crate::stage::{MEDIA, TABLES};
-use libc::{STDIN_FILENO, STDOUT_FILENO};
+use std::io;
+use std::io::{Read, Write};
 use text::number::Number;
 use text::{line, number};
 
@@ -15,9 +16,8 @@ mod segments;
 mod stage;
 mod turns;
 
-fn say(text: &[u8]) {
-    io::write_all(STDOUT_FILENO, text);
-}
+// The most bytes of input that are read.
+const LONGEST: u64 = 4096;
 
 // How many jobs there are.
 const JOBS: u64 = 10;
@@ -37,51 +37,53 @@ fn job(names: &[u8], name: &[u8]) -> u64 {
     i
 }
 
-fn answer(text: &[u8], m: &mut [u8; MEDIA], tables: &mut [u64; TABLES]) -> bool {
+// What a line asks for, if it has a job's form.
+fn answer(text: &[u8], m: &mut [u8; MEDIA], tables: &mut [u64; TABLES]) -> Option<u64> {
     let Number::Is(count) = number::decimal(line::field(text, 1)) else {
-        return false;
+        return None;
     };
     let j = job(
         b"crc\tmarks\tproducts\tsend\tprepare\topen\texport\timport\tconvert\tissue",
         line::field(text, 0),
     );
     if j == JOBS {
-        return false;
+        return None;
     }
-    io::print_decimal(STDOUT_FILENO, jobs::total(j, m, tables, count));
-    true
+    Some(jobs::total(j, m, tables, count))
 }
 
-// The answer, or that there is none, ends its line.
-fn ended(fits: bool) {
-    if !fits {
-        say(b"bad");
+// The line that says an answer, or that there is none.
+fn say(to: &mut impl Write, answer: Option<u64>) -> io::Result<()> {
+    match answer {
+        Some(n) => writeln!(to, "{n}"),
+        None => writeln!(to, "bad"),
     }
-    say(b"\n");
 }
 
 // The lines, each ended by a newline.
-fn answer_all(input: &[u8], m: &mut [u8; MEDIA], tables: &mut [u64; TABLES]) {
+fn answer_all(
+    to: &mut impl Write,
+    input: &[u8],
+    m: &mut [u8; MEDIA],
+    tables: &mut [u64; TABLES],
+) -> io::Result<()> {
     let mut i = 0;
     while i < input.len() {
         let j = byte_search::find(input, i, input.len(), b'\n');
-        ended(answer(&input[i..j], m, tables));
+        say(to, answer(&input[i..j], m, tables))?;
         if j == input.len() {
-            return;
+            return Ok(());
         }
         i = j + 1;
     }
+    Ok(())
 }
 
 // All the input is read at once.
-fn run(m: &mut [u8; MEDIA], tables: &mut [u64; TABLES]) {
-    let mut input = io::buffer();
-    let n = io::read_full(STDIN_FILENO, &mut input);
-    answer_all(&input[0..n], m, tables);
-}
-
-fn main() {
+fn main(rt: HostRuntime) -> io::Result<()> {
+    let mut input = Vec::new(rt.alloc());
+    rt.stdin().take(LONGEST).read_to_end(&mut input)?;
     let mut m = [0u8; MEDIA];
     let mut tables = [0u64; TABLES];
-    run(&mut m, &mut tables);
+    answer_all(&mut rt.stdout(), &input, &mut m, &mut tables)
 }

@@ -7,6 +7,8 @@ use replay_state::{fields, sums};
 use run_lines::fates::FateField;
 use run_lines::{digits, fates, print};
 use segment::header::Stamp;
+use std::io;
+use std::io::Write;
 use text::line;
 
 // The most bytes that are lent, some more than any cluster here fills.
@@ -18,18 +20,19 @@ const UNTOUCHED: u8 = 170;
 
 // Makes the call that a line asks for; false where its fate, its key or a length does not fit.
 pub fn fits(
+    to: &mut impl Write,
     line: &[u8],
     m: &mut [u8; MEDIA],
     tables: &mut [u64; TABLES],
     backup: &[u8; BACKUP],
     w: &mut Cells,
-) -> bool {
+) -> io::Result<bool> {
     let FateField::Is(f) = fates::read(line, 3) else {
-        return false;
+        return Ok(false);
     };
     let mut key = [0u8; 16];
     if !digits::read(line::field(line, 9), &mut key) {
-        return false;
+        return Ok(false);
     }
     let stamp = Stamp {
         time: fields::at(line, 6),
@@ -39,16 +42,17 @@ pub fn fits(
     let a = fields::at(line, 7);
     let b = fields::at(line, 8);
     if (DATA as u64) < a {
-        return false;
+        return Ok(false);
     }
     if (INDEX as u64) < b {
-        return false;
+        return Ok(false);
     }
     let mut file = [UNTOUCHED; DATA];
     let mut index = [UNTOUCHED; INDEX];
     let c = a as usize;
     let d = b as usize;
     with_files(
+        to,
         call,
         stamp,
         &mut file[0..c],
@@ -57,11 +61,12 @@ pub fn fits(
         tables,
         backup,
         w,
-    );
-    true
+    )?;
+    Ok(true)
 }
 
 fn with_files(
+    to: &mut impl Write,
     call: Call,
     stamp: Stamp,
     file: &mut [u8],
@@ -70,9 +75,9 @@ fn with_files(
     tables: &mut [u64; TABLES],
     backup: &[u8; BACKUP],
     w: &mut Cells,
-) {
-    perform::perform(call, stamp, file, index, m, tables, backup, w);
-    perform::print_sum(sums::of_bytes(file));
-    perform::print_sum(sums::of_bytes(index));
-    print::text(b"\n");
+) -> io::Result<()> {
+    perform::perform(to, call, stamp, file, index, m, tables, backup, w)?;
+    perform::print_sum(to, sums::of_bytes(file))?;
+    perform::print_sum(to, sums::of_bytes(index))?;
+    print::text(to, b"\n")
 }

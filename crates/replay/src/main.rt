@@ -4,10 +4,11 @@
 // (twin/src/replay.rs; its replay writes both files).
 #![tactic(auto)]
 
-ghost use Rattle.std.specs.Prelude.{◌+◌, ◌≤◌, length};
+ghost use Rattle.std.specs.Prelude.{◌+◌, ◌≤◌, length, IfOk};
 
-use libc::STDIN_FILENO;
 use replay_state::cells::{ALL, Cells};
+use std::io;
+use std::io::{BufReader, BufWriter, Read, Write};
 
 mod answer;
 mod backups;
@@ -29,30 +30,21 @@ pub const TABLES: usize = 4100;
 // Bytes for a restore: a medium of 15 places.
 pub const BACKUP: usize = 1144;
 
-// What stands for the end of the input where a byte is read.
-const END: usize = 256;
-
-const NEWLINE: usize = 10;
-
-fn wide(b: u8) -> usize {
-    b as usize
-}
-
-// The next byte of the input.
-fn next() -> usize {
+// The next byte of the input, if there is one.
+fn next(input: &mut impl Read) -> io::Result<Option<u8>> {
     let mut b = [0u8; 1];
-    if io::read_full(STDIN_FILENO, &mut b) == 0 {
-        return END;
+    if input.read(&mut b)? == 0 {
+        return Ok(None);
     }
-    wide(b[0])
+    Ok(Some(b[0]))
 }
 
 // One more byte of a line of n: how many there are now, at most one above what can be held.
-fn put(line: &mut [u8], n: usize, b: usize) -> usize {
+fn put(line: &mut [u8], n: usize, b: u8) -> usize {
     if line.len() <= n {
         return line.len() + 1;
     }
-    line[n] = (b % 256) as u8;
+    line[n] = b;
     n + 1
 }
 
@@ -67,48 +59,61 @@ fn ended(line: &[u8], n: usize) -> usize
 }
 
 // Reads a line and answers one more than its length; 0 at the end of the input. A proved loop has to end, and nothing says that the
-// input does: so it counts its turns down, from a number that no run uses up.
-fn read(line: &mut [u8]) -> usize
-    ensures { result ≤ length line.old + 1 }
+// input does: so it counts its turns up, to a number that no run comes to.
+fn read(input: &mut impl Read, line: &mut [u8]) -> io::Result<usize>
+    ensures { IfOk result (λ n. n ≤ length line.old + 1) }
 {
     let mut n = 0;
-    let mut turns = u64::MAX;
-    while 0 < turns {
-        let b = next();
-        if b == NEWLINE {
-            return ended(line, n);
-        }
-        if b == END {
+    for _ in 0..u64::MAX {
+        let Some(b) = next(input)? else {
             break;
+        };
+        if b == b'\n' {
+            return Ok(ended(line, n));
         }
         n = put(line, n, b);
-        turns -= 1;
     }
     if n == 0 {
-        return 0;
+        return Ok(0);
     }
-    ended(line, n)
+    Ok(ended(line, n))
 }
 
-// Answers every line.
-fn run(m: &mut [u8; MEDIA], tables: &mut [u64; TABLES], backup: &mut [u8; BACKUP], w: &mut Cells) {
+// Answers every line; the answer to a line is written before the next is read.
+fn run(
+    input: &mut impl Read,
+    to: &mut impl Write,
+    m: &mut [u8; MEDIA],
+    tables: &mut [u64; TABLES],
+    backup: &mut [u8; BACKUP],
+    w: &mut Cells,
+) -> io::Result<()> {
     let mut line = [0u8; LIMIT];
-    let mut turns = u64::MAX;
-    while 0 < turns {
-        let n = read(&mut line);
+    for _ in 0..u64::MAX {
+        let n = read(input, &mut line)?;
         if n == 0 {
-            return;
+            break;
         }
-        let e = n - 1;
-        answer::told(answer::fits(&line[0..e], m, tables, backup, w));
-        turns -= 1;
+        let fits = answer::fits(to, &line[0..n - 1], m, tables, backup, w)?;
+        answer::told(to, fits)?;
+        to.flush()?;
     }
+    Ok(())
 }
 
-fn main() {
+fn main(rt: HostRuntime) -> io::Result<()> {
+    let mut input = BufReader::new(rt.alloc(), rt.stdin())?;
+    let mut to = BufWriter::new(rt.alloc(), rt.stdout())?;
     let mut m = [0u8; MEDIA];
     let mut tables = [0u64; TABLES];
     let mut backup = [0u8; BACKUP];
     let mut w = [0u64; ALL];
-    run(&mut m, &mut tables, &mut backup, &mut w);
+    run(
+        &mut input,
+        &mut to,
+        &mut m,
+        &mut tables,
+        &mut backup,
+        &mut w,
+    )
 }

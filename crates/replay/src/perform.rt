@@ -6,43 +6,47 @@ use replay_state::cells::{BACKUP, COUNT, Cells, DATA, GIVEN, LENT, LOCKS, SHAPE,
 use replay_state::{cells, records, sums};
 use run_lines::print;
 use segment::header::Stamp;
+use std::io;
+use std::io::Write;
 use storage::sizes::Place;
 
 // The lock and its estimate stand behind number 15.
-fn print_refusal(why: Refusal) {
-    print::text(b"no");
-    print::next(replies::number_of(why));
+fn print_refusal(to: &mut impl Write, why: Refusal) -> io::Result<()> {
+    print::text(to, b"no")?;
+    print::next(to, replies::number_of(why))?;
     if let Refusal::Locked(lock, estimate) = why {
-        print::next(lock);
-        print::next(estimate);
+        print::next(to, lock)?;
+        print::next(to, estimate)?;
     }
+    Ok(())
 }
 
-pub fn print_answer(a: Answer) {
+pub fn print_answer(to: &mut impl Write, a: Answer) -> io::Result<()> {
     match a {
-        Answer::Done => print::text(b"ok"),
+        Answer::Done => print::text(to, b"ok"),
         Answer::Value(v) => {
-            print::text(b"ok");
-            print::next(v);
+            print::text(to, b"ok")?;
+            print::next(to, v)
         }
-        Answer::Silent => print::text(b"silent"),
-        Answer::Declined(why) => print_refusal(why),
+        Answer::Silent => print::text(to, b"silent"),
+        Answer::Declined(why) => print_refusal(to, why),
     }
 }
 
 // The bytes beside an answer: read's, and zeros beside any other.
-fn print_bytes(b: &Place) {
+fn print_bytes(to: &mut impl Write, b: &Place) -> io::Result<()> {
     if !octets::all_zero(b) {
-        print::text(b"\t");
-        print::digits(b);
+        print::text(to, b"\t")?;
+        print::digits(to, b)?;
     }
+    Ok(())
 }
 
-pub fn print_sum(sum: u32) {
+pub fn print_sum(to: &mut impl Write, sum: u32) -> io::Result<()> {
     let mut out = [0u8; 4];
     octets::set_be(&mut out, sum as u64);
-    print::text(b"\t");
-    print::digits(&out);
+    print::text(to, b"\t")?;
+    print::digits(to, &out)
 }
 
 pub fn least(a: u64, b: usize) -> usize
@@ -103,22 +107,23 @@ fn apply(
 }
 
 // The records that a call leaves are held, and the answer is printed.
-fn keep(o: Outcome, w: &mut Cells) {
+fn keep(to: &mut impl Write, o: Outcome, w: &mut Cells) -> io::Result<()> {
     let records = o.records;
     let answer = o.answer;
     let bytes = o.bytes;
     records::put_all(w, records);
-    print_answer(answer);
-    print_bytes(&bytes);
+    print_answer(to, answer)?;
+    print_bytes(to, &bytes)
 }
 
-pub fn print_sums(m: &[u8], tables: &[u64], w: &Cells) {
-    print_sum(sums::of_records(w));
-    print_sum(sums::of_bytes(m));
-    print_sum(sums::of(tables));
+pub fn print_sums(to: &mut impl Write, m: &[u8], tables: &[u64], w: &Cells) -> io::Result<()> {
+    print_sum(to, sums::of_records(w))?;
+    print_sum(to, sums::of_bytes(m))?;
+    print_sum(to, sums::of(tables))
 }
 
 fn make(
+    to: &mut impl Write,
     call: Call,
     stamp: Stamp,
     file: &mut [u8],
@@ -127,14 +132,15 @@ fn make(
     tables: &mut [u64],
     backup: &[u8],
     w: &mut Cells,
-) {
+) -> io::Result<()> {
     let o = apply(call, stamp, file, index, m, tables, backup, w);
-    keep(o, w);
-    print_sums(m, tables, w);
+    keep(to, o, w)?;
+    print_sums(to, m, tables, w)
 }
 
 // The slices are lent at the lengths that are held.
 pub fn perform(
+    to: &mut impl Write,
     call: Call,
     stamp: Stamp,
     file: &mut [u8],
@@ -143,10 +149,11 @@ pub fn perform(
     tables: &mut [u64],
     backup: &[u8],
     w: &mut Cells,
-) {
+) -> io::Result<()> {
     let a = least(cells::at(w, LENT), m.len());
     let b = least(cells::at(w, LENT + 1), tables.len());
     make(
+        to,
         call,
         stamp,
         file,
@@ -155,5 +162,5 @@ pub fn perform(
         &mut tables[0..b],
         backup,
         w,
-    );
+    )
 }

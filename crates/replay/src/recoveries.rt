@@ -8,6 +8,8 @@ use recovery::Recovered;
 use replay_state::cells::{Cells, GIVEN, LENT};
 use replay_state::{cells, fields, records};
 use run_lines::{digits, print};
+use std::io;
+use std::io::Write;
 use storage::sizes::PLACE;
 use text::line;
 
@@ -96,6 +98,7 @@ fn play(
 }
 
 fn make(
+    to: &mut impl Write,
     server: u64,
     listed: &[u64],
     fates: &[u64],
@@ -103,15 +106,16 @@ fn make(
     m: &mut [u8],
     tables: &mut [u64],
     w: &mut Cells,
-) {
+) -> io::Result<()> {
     let o = play(server, listed, fates, given, m, tables, w);
-    keep(o, w);
-    perform::print_sums(m, tables, w);
-    print::text(b"\n");
+    keep(to, o, w)?;
+    perform::print_sums(to, m, tables, w)?;
+    print::text(to, b"\n")
 }
 
 // The slices are lent at the lengths that are held.
 fn recover(
+    to: &mut impl Write,
     server: u64,
     listed: &[u64],
     fates: &[u64],
@@ -119,10 +123,11 @@ fn recover(
     m: &mut [u8],
     tables: &mut [u64],
     w: &mut Cells,
-) {
+) -> io::Result<()> {
     let a = perform::least(cells::at(w, LENT), m.len());
     let b = perform::least(cells::at(w, LENT + 1), tables.len());
     make(
+        to,
         server,
         listed,
         fates,
@@ -130,31 +135,33 @@ fn recover(
         &mut m[0..a],
         &mut tables[0..b],
         w,
-    );
+    )
 }
 
 // The records that it leaves are held; the reply and the count of calls are printed.
-fn keep(o: Recovered, w: &mut Cells) {
+fn keep(to: &mut impl Write, o: Recovered, w: &mut Cells) -> io::Result<()> {
     let records = o.records;
     let answer = o.answer;
     let calls = o.calls;
     records::put_all(w, records);
-    perform::print_answer(answer);
-    print::next(calls);
+    perform::print_answer(to, answer)?;
+    print::next(to, calls)
 }
 
 // With the bytes beside the fates.
 fn with_bytes(
+    to: &mut impl Write,
     line: &[u8],
     listed: &[u64; LISTED],
     fates: &[u64; FATES],
     m: &mut [u8; MEDIA],
     tables: &mut [u64; TABLES],
     w: &mut Cells,
-) {
+) -> io::Result<()> {
     let given = beside(perform::least(fields::at(line, 3), FATES - 1), w);
     let e = perform::least(fields::at(line, 2), BESIDE);
     recover(
+        to,
         fields::at(line, 1),
         some(listed, line::field(line, 4)),
         some(fates, line::field(line, 5)),
@@ -162,16 +169,22 @@ fn with_bytes(
         m,
         tables,
         w,
-    );
+    )
 }
 
 // Makes the recovery that a line asks for; false where its numbers do not fit.
-pub fn fits(line: &[u8], m: &mut [u8; MEDIA], tables: &mut [u64; TABLES], w: &mut Cells) -> bool {
+pub fn fits(
+    to: &mut impl Write,
+    line: &[u8],
+    m: &mut [u8; MEDIA],
+    tables: &mut [u64; TABLES],
+    w: &mut Cells,
+) -> io::Result<bool> {
     let mut listed = [0u64; LISTED];
     let mut fates = [0u64; FATES];
     if !read_all(line, &mut listed, &mut fates) {
-        return false;
+        return Ok(false);
     }
-    with_bytes(line, &listed, &fates, m, tables, w);
-    true
+    with_bytes(to, line, &listed, &fates, m, tables, w)?;
+    Ok(true)
 }

@@ -2,7 +2,7 @@
 // program and of its replies is proved (crate interpreter); this reads and writes them.
 #![tactic(auto)]
 
-ghost use Rattle.std.specs.Prelude.{◌≡◌, ◌≤◌, length};
+ghost use Rattle.std.specs.Prelude.{◌≡◌, ◌≤◌, length, IfOk};
 ghost use Rattle.crc32.specs.Tables.{tables_of};
 ghost use Rattle.answers.specs.Sizes.{line_room, Lent};
 ghost use Rattle.answers.specs.Answers.{nothing};
@@ -11,8 +11,10 @@ use cluster::Records;
 use crc32::Tables;
 use interpreter::program;
 use interpreter::program::State;
-use libc::{STDERR_FILENO, STDIN_FILENO, STDOUT_FILENO};
 use lines::forms::LIMIT;
+use std::io::{Read, Write};
+use std::process::ExitCode;
+use std::{fmt, io};
 
 // What is held of a line: one byte more than a line may have, enough to know that it is too long.
 const ROOM: usize = 501;
@@ -22,41 +24,59 @@ const MEDIA: usize = 50848;
 
 const TABLES: usize = 4096;
 
-// Room for the replies to the 4,096 bytes that are read at once.
+// How many bytes are read at once.
+const PIECE: usize = 4096;
+
+// Room for the replies to so many.
 const OUT: usize = 98304;
 
-// Whether the input goes on, has ended, or could not be read or its replies not be written.
-const GOES_ON: u8 = 0;
+// What ends the program before its input ends: a line on standard error says it, and nothing is read or written after it.
+#[derive(Drop)]
+enum Failure {
+    Input,
+    Output,
+}
 
-const ENDED: u8 = 1;
+impl fmt::Display for Failure {
+    fn fmt<W: fmt::Write>(&self, f: &mut fmt::Formatter<W>) -> fmt::Result {
+        match self {
+            Failure::Input => write!(f, "standard input cannot be read"),
+            Failure::Output => write!(f, "standard output cannot be written"),
+        }
+    }
+}
 
-const FAILED: u8 = 2;
-
-// What a piece of input leaves.
+// What a piece of input leaves, and whether the input has ended.
 #[derive(Clone, Copy)]
 struct Turn {
-    status: u8,
+    ended: bool,
     state: State,
 }
 
-// The language has no exit status: a failure is a line on standard error, and nothing is read or written after it.
-fn fail(what: &[u8]) {
-    io::write_all(STDERR_FILENO, what);
-}
-
-// Writes the replies held, in as many writes as that takes; false where one failed.
-fn write(out: &[u8], o: usize) -> bool
+// Writes the replies held, in as many writes as that takes.
+fn write(to: &mut impl Write, out: &[u8], o: usize) -> Result<(), Failure>
     requires { o ≤ length out.now }
 {
-    if io::write_all(STDOUT_FILENO, &out[0..o]) {
-        return true;
+    match to.write_all(&out[0..o]) {
+        Ok(()) => Ok(()),
+        Err(_) => Err(Failure::Output),
     }
-    fail(b"script: standard output cannot be written\n");
-    false
+}
+
+// The next piece of input, in front in what is lent: how many bytes it has, 0 where the input has ended.
+fn read(input: &mut impl Read, chunk: &mut [u8]) -> Result<usize, Failure>
+    ensures { IfOk result (λ n. n ≤ length chunk.old) }
+{
+    match input.read(chunk) {
+        Ok(n) => Ok(n),
+        Err(_) => Err(Failure::Input),
+    }
 }
 
 // Reads a piece of input and writes the replies to it.
 fn answer_piece(
+    input: &mut impl Read,
+    to: &mut impl Write,
     t: &Tables,
     blank: Records,
     s: State,
@@ -66,27 +86,19 @@ fn answer_piece(
     content: &mut [u8],
     locks: &mut [u64],
     out: &mut [u8],
-) -> Turn
+) -> Result<Turn, Failure>
     requires t_value { (t.now ≡ tables_of) × (blank ≡ nothing.records) }
     requires lent { Lent (length m.old) (length tables.old) (length line.old) (length content.old) (length locks.old) (length out.old) }
     requires n_le_line_room { (s.n ≤ line_room) × (s.o ≡ 0) }
-    ensures { (result.state.n ≤ line_room) × (result.state.o ≡ 0) }
+    ensures { IfOk result (λ r. (r.state.n ≤ line_room) × (r.state.o ≡ 0)) }
 {
-    let mut chunk = io::buffer();
-    let got = libc::read(STDIN_FILENO, &mut chunk);
-    if got < 0 {
-        fail(b"script: standard input cannot be read\n");
-        return Turn {
-            status: FAILED,
-            state: s,
-        };
-    }
-    let n = io::count(got, &chunk);
+    let mut chunk = [0u8; PIECE];
+    let n = read(input, &mut chunk)?;
     if n == 0 {
-        return Turn {
-            status: ENDED,
+        return Ok(Turn {
+            ended: true,
             state: s,
-        };
+        });
     }
     let fed = program::feed(
         t,
@@ -100,23 +112,18 @@ fn answer_piece(
         locks,
         out,
     );
-    let o = fed.o;
-    let next = program::emptied(fed);
-    if !write(out, o) {
-        return Turn {
-            status: FAILED,
-            state: next,
-        };
-    }
-    Turn {
-        status: GOES_ON,
-        state: next,
-    }
+    write(to, out, fed.o)?;
+    Ok(Turn {
+        ended: false,
+        state: program::emptied(fed),
+    })
 }
 
-// Reads to the end of the input. A proved loop has to end, and nothing says that the input does: so it counts its turns down, from a
-// number that no run uses up.
+// Reads to the end of the input. A proved loop has to end, and nothing says that the input does: so it counts its turns up, to a
+// number that no run comes to.
 fn read_all(
+    input: &mut impl Read,
+    to: &mut impl Write,
     t: &Tables,
     blank: Records,
     s: State,
@@ -126,30 +133,31 @@ fn read_all(
     content: &mut [u8],
     locks: &mut [u64],
     out: &mut [u8],
-) -> Turn
+) -> Result<Turn, Failure>
     requires t_value { (t.now ≡ tables_of) × (blank ≡ nothing.records) }
     requires lent { Lent (length m.old) (length tables.old) (length line.old) (length content.old) (length locks.old) (length out.old) }
     requires n_le_line_room { (s.n ≤ line_room) × (s.o ≡ 0) }
-    ensures { (result.state.n ≤ line_room) × (result.state.o ≡ 0) }
+    ensures { IfOk result (λ r. (r.state.n ≤ line_room) × (r.state.o ≡ 0)) }
 {
     let mut last = Turn {
-        status: GOES_ON,
+        ended: false,
         state: s,
     };
-    let mut turns = u64::MAX;
-    while 0 < turns {
-        if last.status != GOES_ON {
+    for _ in 0..u64::MAX {
+        if last.ended {
             break;
         }
         let state = last.state;
-        last = answer_piece(t, blank, state, m, tables, line, content, locks, out);
-        turns -= 1;
+        last = answer_piece(
+            input, to, t, blank, state, m, tables, line, content, locks, out,
+        )?;
     }
-    last
+    Ok(last)
 }
 
 // The reply to a last line without newline, where the input ended.
 fn end(
+    to: &mut impl Write,
     t: &Tables,
     blank: Records,
     last: Turn,
@@ -159,20 +167,22 @@ fn end(
     content: &mut [u8],
     locks: &mut [u64],
     out: &mut [u8],
-)
+) -> Result<(), Failure>
     requires t_value { (t.now ≡ tables_of) × (blank ≡ nothing.records) }
     requires lent { Lent (length m.old) (length tables.old) (length line.now) (length content.old) (length locks.old) (length out.old) }
     requires n_le_line_room { (last.state.n ≤ line_room) × (last.state.o ≡ 0) }
 {
-    if last.status != ENDED {
-        return;
+    if !last.ended {
+        return Ok(());
     }
     let state = last.state;
     let s = program::finish(t, blank, state, m, tables, line, content, locks, out);
-    write(out, s.o);
+    write(to, out, s.o)
 }
 
 fn run(
+    input: &mut impl Read,
+    to: &mut impl Write,
     t: &Tables,
     blank: Records,
     m: &mut [u8],
@@ -181,25 +191,18 @@ fn run(
     content: &mut [u8],
     locks: &mut [u64],
     out: &mut [u8],
-)
+) -> Result<(), Failure>
     requires t_value { (t.now ≡ tables_of) × (blank ≡ nothing.records) }
     requires lent { Lent (length m.old) (length tables.old) (length line.old) (length content.old) (length locks.old) (length out.old) }
 {
+    let start = program::start();
     let last = read_all(
-        t,
-        blank,
-        program::start(),
-        m,
-        tables,
-        line,
-        content,
-        locks,
-        out,
-    );
-    end(t, blank, last, m, tables, line, content, locks, out);
+        input, to, t, blank, start, m, tables, line, content, locks, out,
+    )?;
+    end(to, t, blank, last, m, tables, line, content, locks, out)
 }
 
-fn main() {
+fn main(rt: HostRuntime) -> io::Result<ExitCode> {
     let t = crc32::tables();
     let none = answers::answer::nothing();
     let blank = none.records;
@@ -209,7 +212,9 @@ fn main() {
     let mut content = [0u8; LIMIT];
     let mut locks = [0u64; LIMIT];
     let mut out = [0u8; OUT];
-    run(
+    let ran = run(
+        &mut rt.stdin(),
+        &mut rt.stdout(),
         &t,
         blank,
         &mut m,
@@ -219,4 +224,11 @@ fn main() {
         &mut locks,
         &mut out,
     );
+    match ran {
+        Ok(()) => Ok(ExitCode::SUCCESS),
+        Err(why) => {
+            eprintln!(rt; "script: {why}")?;
+            Ok(ExitCode::FAILURE)
+        }
+    }
 }

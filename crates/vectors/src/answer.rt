@@ -4,6 +4,8 @@ ghost use Rattle.crc32.specs.Tables.{tables_of};
 
 use crate::{conversions, media, operation, records, segments};
 use crc32::Tables;
+use std::io;
+use std::io::Write;
 use text::line;
 
 #[derive(Clone, Copy)]
@@ -78,24 +80,24 @@ fn segment_form_of(word: &[u8]) -> Form {
 }
 
 // Prints the answer, or nothing and says false where the line has no vector's form.
-pub fn answer(t: &Tables, line: &[u8]) -> bool
+pub fn answer(to: &mut impl Write, t: &Tables, line: &[u8]) -> io::Result<bool>
     requires { t.now ≡ tables_of }
 {
     let f = form_of(line::field(line, 0));
     if line::count(line) != f.1 {
-        return false;
+        return Ok(false);
     }
     let c = f.0;
     match c {
-        Command::Crc => records::crc(t, line),
-        Command::Place => records::place(t, line),
-        Command::Slot => records::slot(t, line),
-        Command::Record => records::record(t, line),
-        Command::SlotOf => records::slot_of(t, line),
-        Command::Media(x) => media::answer(t, line, x),
-        Command::Pair => segments::pair(t, line),
-        Command::Import => segments::import(t, line),
-        Command::Convert => conversions::convert(t, line),
-        Command::Unknown => false,
+        Command::Crc => records::crc(to, t, line),
+        Command::Place => records::place(to, t, line),
+        Command::Slot => records::slot(to, t, line),
+        Command::Record => records::record(to, t, line),
+        Command::SlotOf => records::slot_of(to, t, line),
+        Command::Media(x) => media::answer(to, t, line, x),
+        Command::Pair => segments::pair(to, t, line),
+        Command::Import => segments::import(to, t, line),
+        Command::Convert => conversions::convert(to, t, line),
+        Command::Unknown => Ok(false),
     }
 }

@@ -7,8 +7,9 @@ ghost use Rattle.std.specs.Prelude.{◌≡◌};
 ghost use Rattle.crc32.specs.Tables.{tables_of};
 
 use crc32::Tables;
-use libc::STDIN_FILENO;
 use run_lines::print;
+use std::io;
+use std::io::{BufWriter, Read, Write};
 
 mod answer;
 mod conversions;
@@ -20,71 +21,78 @@ mod segments;
 // The longest line that is answered: the digits of an old medium of 1,000 places, and more.
 const LIMIT: usize = 130000;
 
+// How many bytes are read at once.
+const PIECE: usize = 65536;
+
 // Answers a line of n bytes; of a line that is too long only the first are held.
-fn finish(t: &Tables, held: &[u8], n: usize)
+fn finish(to: &mut impl Write, t: &Tables, held: &[u8], n: usize) -> io::Result<()>
     requires { t.now ≡ tables_of }
 {
     if held.len() < n {
-        print::text(b"bad\n");
-        return;
+        return print::text(to, b"bad\n");
     }
-    if !answer::answer(t, &held[0..n]) {
-        print::text(b"bad");
+    if !answer::answer(to, t, &held[0..n])? {
+        print::text(to, b"bad")?;
     }
-    print::text(b"\n");
+    print::text(to, b"\n")
 }
 
 // One more byte of the input, where n of its line came before: how many have come now, at most one above what can be held.
-fn put(t: &Tables, held: &mut [u8], n: usize, b: u8) -> usize
+fn put(to: &mut impl Write, t: &Tables, held: &mut [u8], n: usize, b: u8) -> io::Result<usize>
     requires { t.now ≡ tables_of }
 {
     if b == b'\n' {
-        finish(t, held, n);
-        return 0;
+        finish(to, t, held, n)?;
+        return Ok(0);
     }
     if held.len() <= n {
-        return held.len() + 1;
+        return Ok(held.len() + 1);
     }
     held[n] = b;
-    n + 1
+    Ok(n + 1)
 }
 
 // The bytes of one read.
-fn feed(t: &Tables, held: &mut [u8], n: usize, chunk: &[u8]) -> usize
+fn feed(
+    to: &mut impl Write,
+    t: &Tables,
+    held: &mut [u8],
+    n: usize,
+    chunk: &[u8],
+) -> io::Result<usize>
     requires { t.now ≡ tables_of }
 {
     let mut k = n;
-    let mut i = 0;
-    while i < chunk.len() {
-        k = put(t, held, k, chunk[i]);
-        i += 1;
+    for b in chunk {
+        k = put(to, t, held, k, *b)?;
     }
-    k
+    Ok(k)
 }
 
-// Reads to the end of the input. A proved loop has to end, and nothing says that the input does: so it counts its turns down,
-// from a number that no run uses up.
-fn run(t: &Tables, held: &mut [u8])
+// Reads to the end of the input; the answers to what is read at once are written before more is read. A proved loop has to end, and
+// nothing says that the input does: so it counts its turns up, to a number that no run comes to.
+fn run(input: &mut impl Read, to: &mut impl Write, t: &Tables, held: &mut [u8]) -> io::Result<()>
     requires { t.now ≡ tables_of }
 {
-    let mut chunk = io::large_buffer();
+    let mut chunk = [0u8; PIECE];
     let mut n = 0;
-    let mut turns = u64::MAX;
-    while 0 < turns {
-        let got = io::read_full(STDIN_FILENO, &mut chunk);
+    for _ in 0..u64::MAX {
+        let got = input.read(&mut chunk)?;
         if got == 0 {
             break;
         }
-        n = feed(t, held, n, &chunk[0..got]);
-        turns -= 1;
+        n = feed(to, t, held, n, &chunk[0..got])?;
+        to.flush()?;
     }
     if 0 < n {
-        finish(t, held, n);
+        finish(to, t, held, n)?;
     }
+    to.flush()
 }
 
-fn main() {
+fn main(rt: HostRuntime) -> io::Result<()> {
+    let mut to = BufWriter::new(rt.alloc(), rt.stdout())?;
     let t = crc32::tables();
     let mut held = [0u8; LIMIT];
-    run(&t, &mut held);
+    run(&mut rt.stdin(), &mut to, &t, &mut held)
 }

@@ -10,6 +10,8 @@ use crc32::Tables;
 use fate::Fate;
 use run_lines::fates::FateField;
 use run_lines::{digits, fates, print};
+use std::io;
+use std::io::Write;
 use storage::sizes;
 use storage::sizes::PLACE;
 use storage::slot::Current;
@@ -19,53 +21,69 @@ use text::{line, number};
 // The most places of a medium: lines and answers stay small.
 const MOST: u64 = 14;
 
+// More bytes than such a medium has.
+const LONGEST: usize = 4096;
+
 // The answer to a line about a medium.
-pub fn answer(t: &Tables, line: &[u8], c: Command) -> bool
+pub fn answer(to: &mut impl Write, t: &Tables, line: &[u8], c: Command) -> io::Result<bool>
     requires { t.now ≡ tables_of }
 {
     let Number::Is(n) = number::decimal(line::field(line, 1)) else {
-        return false;
+        return Ok(false);
     };
     if MOST < n {
-        return false;
+        return Ok(false);
     }
     let places = n as usize;
     let size = sizes::medium_size(n);
-    let mut m = io::buffer();
-    on_medium(t, line, c, places, &mut m[0..size])
+    let mut m = [0u8; LONGEST];
+    on_medium(to, t, line, c, places, &mut m[0..size])
 }
 
 // The answer on a medium of so many places, whose bytes are read into m.
-fn on_medium(t: &Tables, line: &[u8], c: Command, places: usize, m: &mut [u8]) -> bool
+fn on_medium(
+    to: &mut impl Write,
+    t: &Tables,
+    line: &[u8],
+    c: Command,
+    places: usize,
+    m: &mut [u8],
+) -> io::Result<bool>
     requires t_value { t.now ≡ tables_of }
     requires m_len { length m.old ≡ medium_size places }
     requires places_bound { places ≤ 14 }
 {
     if let Command::Medium = c {
-        return tell(t, line, places, m);
+        return tell(to, t, line, places, m);
     }
     if !change(t, line, c, places, m) {
-        return false;
+        return Ok(false);
     }
-    print::digits(m);
-    true
+    print::digits(to, m)?;
+    Ok(true)
 }
 
 // Its mark, its current slot and what that holds.
-fn tell(t: &Tables, line: &[u8], places: usize, m: &mut [u8]) -> bool
+fn tell(
+    to: &mut impl Write,
+    t: &Tables,
+    line: &[u8],
+    places: usize,
+    m: &mut [u8],
+) -> io::Result<bool>
     requires t_value { t.now ≡ tables_of }
     requires m_len { length m.old ≡ medium_size places }
 {
     if !digits::read(line::field(line, 2), m) {
-        return false;
+        return Ok(false);
     }
     let r = medium::operation::read_medium(t, m, places);
     let c = r.current;
     let x = r.slot;
-    print::number(r.mark as u64);
-    print::next(position(c));
-    records::held(x);
-    true
+    print::number(to, r.mark as u64)?;
+    print::next(to, position(c))?;
+    records::held(to, x)?;
+    Ok(true)
 }
 
 fn position(c: Current) -> u64 {

@@ -7,6 +7,6 @@ use Rattle.script.proofs.main.Goals as goal
 
 pub run-requires : goal.run-requires
 run-requires c = record {
-    t_value = (c.tables-t.ensures, ap (λ (h : Held). h.records) c.nothing-none.ensures);
-    lent = search rules;
-  }
+  t_value = (c.tables-t.ensures, ap (λ (h : Held). h.records) c.nothing-none.ensures);
+  lent = search rules;
+}

@@ -11,10 +11,10 @@ loop-turns-init c =
 pub answer_piece-last-requires : goal.answer_piece-last-requires
 answer_piece-last-requires c =
     let i = c.loop-turns.invariant in record {
-    t_value = c.requires.t_value;
-    lent = i.0;
-    n_le_line_room = (i.1, i.2);
-  }
+      t_value = c.requires.t_value;
+      lent = i.0;
+      n_le_line_room = (i.1, i.2);
+    }
 
 pub loop-turns-preserved : goal.loop-turns-preserved
 loop-turns-preserved c =

@@ -9,9 +9,9 @@ use Rattle.run_lines.proofs.digits.read.Goals as goal
 
 pub read-requires : goal.read-requires
 read-requires c = record {
-    s_value = sym c.is_hex.ensures ∙ c.if-not-is_hex.false;
-    s_len_bound = omega arith;
-  }
+  s_value = sym c.is_hex.ensures ∙ c.if-not-is_hex.false;
+  s_len_bound = omega arith;
+}
 
 pub returns : goal.returns
 returns c =

@@ -5,7 +5,7 @@ use Rattle.vectors.proofs.media.change.Goals as goal
 
 pub perform-requires : goal.perform-requires
 perform-requires c = record {
-    t_value = search rules;
-    m_len = search rules;
-    given_len = search rules;
-  }
+  t_value = search rules;
+  m_len = search rules;
+  given_len = search rules;
+}

@@ -7,9 +7,9 @@ pub perform-requires : goal.perform-requires
 perform-requires c =
     let p = c.requires in
     let r = c.read_medium-r.ensures in record {
-    t_value = p.t_value;
-    as_read = r.1;
-    has_place = rw r.0 (c.has_place.ensures c.if-not-has_place.false);
-    src_len = search rules;
-    given_len = p.given_len;
-  }
+      t_value = p.t_value;
+      as_read = r.1;
+      has_place = rw r.0 (c.has_place.ensures c.if-not-has_place.false);
+      src_len = search rules;
+      given_len = p.given_len;
+    }

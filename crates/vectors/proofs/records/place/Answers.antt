@@ -8,6 +8,6 @@ pub tell-requires : goal.tell-requires
 tell-requires c =
     let b = c.read.new.out in
     let v = valid_tests _ b (sym c.valid.ensures ∙ c.if-not-valid.false) in record {
-    b_len = v.size;
-    b_bound = v.short;
-  }
+      b_len = v.size;
+      b_bound = v.short;
+    }

@@ -10,10 +10,10 @@ write_pair-requires c =
     let p = c.requires in
     let m = a.m.now in
     let l = mark_le a.places m in record {
-    t_value = p.t_value;
-    k_in_bounds = omega (arith, p.m_len, l);
-    all_sized = all_sized a.places a.k m p.m_len.1;
-    k_le_places_limit = omega (arith, p.m_len.2);
-    file_len = p.file_len.0;
-    index_len = p.index_len;
-  }
+      t_value = p.t_value;
+      k_in_bounds = omega (arith, p.m_len, l);
+      all_sized = all_sized a.places a.k m p.m_len.1;
+      k_le_places_limit = omega (arith, p.m_len.2);
+      file_len = p.file_len.0;
+      index_len = p.index_len;
+    }

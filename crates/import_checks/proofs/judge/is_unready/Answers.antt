@@ -1,6 +1,6 @@
 -- `judge::is_unready`, case by case: both headers against the one that export would write, the medium's places, the number of offsets.
 use mathlib.Core.Path.{sym, ap, ◌∙◌}
-use mathlib.Core.Bool.{not, true, false, false≢true}
+use mathlib.Core.Bool.{not, false≢true}
 use mathlib.Core.List.{List}
 use Prim.Native.Nat.{ℕ}
 use lib.ListN.{take}

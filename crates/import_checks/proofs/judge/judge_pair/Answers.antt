@@ -63,10 +63,10 @@ is_record-requires c =
     let w = size_there c.size_at-size.result (drop l.at a.file.now) c.size_at-size.ensures c.if-size-eq0.false in
     let g = within l.spoilt l.n l.at l.i a.count a.index.now a.file.now w.0 in
     let e = to_end l.at a.file.now in record {
-    t_value = c.requires.t_value;
-    place_layout_in_bounds = rw e g.0;
-    s_bound = rw e g.1;
-  }
+      t_value = c.requires.t_value;
+      place_layout_in_bounds = rw e g.0;
+      s_bound = rw e g.1;
+    }
 
 pub overflow_add-at : goal.overflow_add-at
 overflow_add-at c =

@@ -1,6 +1,5 @@
 -- `fill::fill`. The invariant: the records that are left are fit, and their places, written into the medium as it is, give the whole.
 use mathlib.Core.Path.{◌≡◌, refl, sym, ap, ◌∙◌}
-use mathlib.Core.Bool.{false}
 use Prim.Native.Nat.{ℕ, ◌+◌, ◌-◌}
 use lib.ListN.{length, drop, length-drop}
 use native.Mathlib.Omega.{arith}
@@ -68,11 +67,11 @@ write_place-requires c =
     let w = this_record l.n a.count l.at a.file.now c.loop-n-test.true l.invariant.4 in
     let e = to_end l.at a.file.now in
     let size = length_between l.a (l.a + place_size) l.m (omega arith) (omega (arith, l.invariant, c.requires.count_in_bounds, c.loop-n-test.true)) in record {
-    t_value = c.requires.t_value;
-    out_len = size ∙ omega arith;
-    s_bound = rw e w.short;
-    s_in_bounds = rw e w.whole;
-  }
+      t_value = c.requires.t_value;
+      out_len = size ∙ omega arith;
+      s_bound = rw e w.short;
+      s_in_bounds = rw e w.whole;
+    }
 
 pub overflow_add-at : goal.overflow_add-at
 overflow_add-at c =

@@ -34,10 +34,10 @@ pub judge_pair-v-requires : goal.judge_pair-v-requires
 judge_pair-v-requires c =
     let a = c.args in
     let f : Files = record { data_file = a.file.now; index_file = a.index.now } in record {
-    t_value = c.tables-t.ensures;
-    index_len = index_fits a.places a.m.now a.z f (sym c.is_outside.ensures ∙ c.if-is_outside.false) ∙ ap index_size (sym c.offsets_in-count.ensures);
-    header_size_in_bounds = c.is_unready.ensures.1 c.if-is_unready.false;
-  }
+      t_value = c.tables-t.ensures;
+      index_len = index_fits a.places a.m.now a.z f (sym c.is_outside.ensures ∙ c.if-is_outside.false) ∙ ap index_size (sym c.offsets_in-count.ensures);
+      header_size_in_bounds = c.is_unready.ensures.1 c.if-is_unready.false;
+    }
 
 pub fill-requires : goal.fill-requires
 fill-requires c =
@@ -47,11 +47,11 @@ fill-requires c =
     let ready = sym c.is_unready.ensures.0 ∙ c.if-is_unready.false in
     let k = c.offsets_in-count.ensures in
     let said : judged_of c.offsets_in-count.result f ≡ ok = sym c.judge_pair-v.ensures ∙ ap reply_of c.in-Done.is in record {
-    t_value = c.tables-t.ensures;
-    count_in_bounds = omega (arith, k, medium_fits a.places a.m.now a.z f small, places_enough a.places a.m.now a.z f ready);
-    header_size_in_bounds = c.is_unready.ensures.1 c.if-is_unready.false;
-    file_value = all_fit c.offsets_in-count.result f said;
-  }
+      t_value = c.tables-t.ensures;
+      count_in_bounds = omega (arith, k, medium_fits a.places a.m.now a.z f small, places_enough a.places a.m.now a.z f ready);
+      header_size_in_bounds = c.is_unready.ensures.1 c.if-is_unready.false;
+      file_value = all_fit c.offsets_in-count.result f said;
+    }
 
 pub returns-in-Done : goal.returns-in-Done
 returns-in-Done c =

@@ -1,23 +1,20 @@
 -- A SESSION ISSUES K IDS AT MOST: `interval`. The statement is specs/Interval.antt.
 -- Assumes nothing.
 use mathlib.Core.Path.{◌≡◌, ap, ◌∙◌}
-use mathlib.Core.List.{List, ◌∷◌}
-use Prim.Native.Nat.{ℕ, ◌+◌, ◌≤◌, ◌<◌}
+use mathlib.Core.List.{◌∷◌}
+use Prim.Native.Nat.{ℕ, ◌+◌}
 use native.Mathlib.Omega.{arith}
 use Rattle.protocol.specs.State as protocol
 use Rattle.protocol.proofs.Invariant.{Inv}
 use Rattle.cluster.specs.declared.Shape.{Shape}
-use Rattle.cluster.specs.declared.Request.{Request}
 use Rattle.cluster.specs.declared.Call.TheVariants as call
 use Rattle.cluster.specs.State.{State, server_at}
 use Rattle.cluster.specs.Refusals.{Input, rows_of}
-use Rattle.cluster.specs.Replies.{ok}
 use Rattle.cluster.specs.Effects.{issue_effect}
 use Rattle.cluster.specs.Step.{effect, unless, step}
 use Rattle.cluster.proofs.Numbers.{ok_passes}
 use Rattle.cluster.proofs.Checkpoint.{within_interval}
-use Rattle.guarantee.specs.History.{Element, History, with_call, beginning, along}
-use Rattle.guarantee.specs.Guarantee.{InRange, CoveredAll}
+use Rattle.guarantee.specs.History.{History, with_call}
 use Rattle.guarantee.specs.Interval.{Within, Interval}
 use Rattle.guarantee.proofs.Ties.{Sim}
 use Rattle.guarantee.proofs.Facts.{open_lives}

@@ -21,8 +21,7 @@ use Rattle.cluster.specs.Replies.{ok}
 use Rattle.cluster.specs.Effects.{Result, issue_effect}
 use Rattle.cluster.specs.Step.{step}
 use Rattle.guarantee.specs.Registers.{changed}
-use Rattle.guarantee.specs.History.{Element, History, with_call, beginning, along, unopened as new-session}
-use Rattle.guarantee.specs.Guarantee.{InRange, CoveredAll}
+use Rattle.guarantee.specs.History.{History, with_call, unopened as new-session}
 use Rattle.guarantee.specs.Once.{New, Once}
 use Rattle.guarantee.proofs.Ties.{Sim}
 use Rattle.guarantee.proofs.Facts.{opening_lives, open_lives}

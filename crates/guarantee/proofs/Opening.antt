@@ -10,7 +10,7 @@ use lib.Dec.{eqb}
 use borrow.Author.Tests.{eqb-true, ltb-false, not-false}
 use Rattle.base.specs.Below.{count}
 use Rattle.fate.specs.declared.Fate.{Fate}
-use Rattle.quorum.specs.Vote.{quorum, decided}
+use Rattle.quorum.specs.Vote.{quorum}
 use Rattle.protocol.specs.State as protocol
 use Rattle.protocol.specs.Columns.{count as tally}
 use Rattle.protocol.specs.Marks.{flagged?, clean}

@@ -1,23 +1,17 @@
 -- WHO IS DECLINED BY 15 HAS SOMETHING LEFT TO READ OR TO WAIT FOR: `readers`. The statement is specs/Readers.antt.
 -- Assumes nothing.
-use mathlib.Core.Path.{◌≡◌}
-use mathlib.Core.List.{List, [], ◌∷◌}
-use Prim.Native.Nat.{ℕ, ◌+◌, ◌≤◌, ◌<◌}
+use Prim.Native.Nat.{◌+◌}
 use native.Mathlib.Omega.{arith}
 use borrow.Author.Tests.{leb-false}
 use Rattle.protocol.specs.State as protocol
 use Rattle.cluster.specs.declared.Shape.{Shape}
-use Rattle.cluster.specs.declared.Request.{Request}
 use Rattle.cluster.specs.declared.Call.TheVariants as call
 use Rattle.cluster.specs.State.{State, window, server_at}
 use Rattle.cluster.specs.Refusals.{Input, rows_of}
-use Rattle.cluster.specs.Replies.{Reply, no}
-use Rattle.cluster.specs.Step.{step}
 use Rattle.cluster.proofs.Rows.{passed}
 use Rattle.cluster.proofs.Numbers.{until}
 use Rattle.cluster.proofs.Locked.{locked_exactly}
-use Rattle.guarantee.specs.History.{Element, History, with_call, beginning, along}
-use Rattle.guarantee.specs.Guarantee.{InRange, CoveredAll}
+use Rattle.guarantee.specs.History.{History, with_call}
 use Rattle.guarantee.specs.Readers.{Unread, Waiting, Unlocked, Readers}
 use Rattle.guarantee.proofs.Ties.{Sim}
 use Rattle.guarantee.proofs.Passing.{below_four, is_open_lem}

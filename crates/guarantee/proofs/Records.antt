@@ -14,7 +14,7 @@ use Rattle.cluster.specs.declared.Phase.TheVariants.{Opening, Open}
 use Rattle.cluster.specs.declared.Server.{Server}
 use Rattle.cluster.specs.State.{no_server, mark_at, member_at, active_at, table_at}
 use Rattle.cluster.specs.Refusals.{is_open}
-use Rattle.cluster.specs.Effects.{with_replica, heard, unheard, acknowledge}
+use Rattle.cluster.specs.Effects.{with_replica, unheard, acknowledge}
 use Rattle.guarantee.proofs.Ties.{Row, OpeningTie, OpenTie, Sized, ServersTie}
 use Rattle.guarantee.proofs.Frames.{stay_frame}
 use Rattle.guarantee.proofs.Facts.{opening_lives, open_lives}

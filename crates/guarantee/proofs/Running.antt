@@ -4,7 +4,7 @@
 use mathlib.Core.Path.{◌≡◌, sym, ap, ◌∙◌}
 use mathlib.Core.List.{List, [], ◌∷◌}
 use Rattle.cluster.specs.declared.Shape.{Shape}
-use Rattle.cluster.specs.State.{State, fresh}
+use Rattle.cluster.specs.State.{State}
 use Rattle.cluster.specs.Effects.{Result}
 use Rattle.cluster.specs.Step.{step}
 use Rattle.recovery.specs.Recovery.{Trail, recovered}

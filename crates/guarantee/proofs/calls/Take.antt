@@ -15,7 +15,6 @@ use Rattle.protocol.proofs.Columns.{upd_same, upd_other}
 use Rattle.protocol.proofs.Traces.{take_answered}
 use Rattle.cluster.specs.declared.Shape.{Shape}
 use Rattle.cluster.specs.declared.Register.{Register}
-use Rattle.cluster.specs.declared.Phase.TheVariants.{Opening}
 use Rattle.cluster.specs.declared.Server.{Server}
 use Rattle.cluster.specs.declared.Call.TheVariants as call
 use Rattle.cluster.specs.State.{State, idle_server}

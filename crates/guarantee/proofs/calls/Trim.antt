@@ -7,7 +7,6 @@ use Prim.Native.Nat.{ℕ, ◌<◌}
 use native.Mathlib.Omega.{arith}
 use borrow.Author.Tests.{ltb-true, not-false}
 use Rattle.fate.specs.declared.Fate.{Fate}
-use Rattle.quorum.specs.Vote.{decided}
 use Rattle.storage.specs.Log.{mark_of}
 use Rattle.storage.specs.Operations.{medium_at, with_medium, trim_writes}
 use Rattle.protocol.specs.State as protocol

@@ -26,7 +26,7 @@ abbrev pub Gives : Meaning → Line → List ℕ → List ℕ → List ℕ → L
 Gives m r d₀ d l₀ l = record {
   value : r ≡ line_of m;
   content_after : d ≡ write_at 0 (data_of m) d₀;
-  locks_after : l ≡ write_at 0 (locks_of m) l₀
+  locks_after : l ≡ write_at 0 (locks_of m) l₀;
 }
 
 pub gives_as : (m n : Meaning) (r : Line) (d₀ d l₀ l : List ℕ) → m ≡ n → Gives n r d₀ d l₀ l → Gives m r d₀ d l₀ l
@@ -37,7 +37,7 @@ pub gives_bare : (m : Meaning) (r : Line) (d l : List ℕ) → Bare m → r ≡ 
 gives_bare m r d l b e = record {
   value = e;
   content_after = sym (ap (λ (x : List ℕ). write_at 0 x d) b.content ∙ write_none d 0);
-  locks_after = sym (ap (λ (x : List ℕ). write_at 0 x l) b.locks ∙ write_none l 0)
+  locks_after = sym (ap (λ (x : List ℕ). write_at 0 x l) b.locks ∙ write_none l 0);
 }
 
 pub gives_bad : (m : Meaning) (d l : List ℕ) → m ≡ bad → Gives m line.Bad d d l l
@@ -63,7 +63,7 @@ module _ (s : List ℕ) (v : ℕ) (q : Request) (f : List ℕ) (p : f ≡ field_
         (record {
           value = ap₂ (λ (i j : ℕ). line.Asked (call.Issue v q) i j) (sym (bytes_length f)) (sym (numbers_length (n - 6) t));
           content_after = x;
-          locks_after = y
+          locks_after = y;
         })
 
 -- ---- the whole line

@@ -16,10 +16,10 @@ catch_up-c-requires c =
     let e = c.prepare_all-p.ensures in
     let n = p.server_bound in
     let few : a.g.calls + length a.listed.now ≤ 8 = omega (arith, p.calls_bound, n.2.few) in record {
-    given_len = p.given_len;
-    server_bound = (n.0, n.2);
-    calls_bound = (count_prepared a.shape d t e few, mark_prepared a.shape d t e few (record { inside = p.tables_value.0; fits = p.tables_value.1 }) n.0 n.1);
-  }
+      given_len = p.given_len;
+      server_bound = (n.0, n.2);
+      calls_bound = (count_prepared a.shape d t e few, mark_prepared a.shape d t e few (record { inside = p.tables_value.0; fits = p.tables_value.1 }) n.0 n.1);
+    }
 
 pub open_session-requires : goal.open_session-requires
 open_session-requires c =

@@ -23,11 +23,11 @@ after_take-requires c =
     let k = known a.shape x a.server a.listed.now a.fates.now a.given.now c.requires in
     let e = c.take_session-t.ensures a.listed.now a.given.now in
     let s = after_take_lem a.shape d (start a.shape d x) e k.steady in record {
-    tables_value = (s.inside, s.fits);
-    given_len = k.beside;
-    server_bound = (k.server, k.below, k.named);
-    calls_bound = omega (arith, ap (λ (t : Trail). t.count) e);
-  }
+      tables_value = (s.inside, s.fits);
+      given_len = k.beside;
+      server_bound = (k.server, k.below, k.named);
+      calls_bound = omega (arith, ap (λ (t : Trail). t.count) e);
+    }
 
 pub returns : goal.returns
 returns c =

@@ -7,6 +7,6 @@ use Rattle.generator.proofs.field.Goals as goal
 pub returns : goal.returns
 unfolding draw
 returns c = record {
-    value = refl;
-    upper_bound = mod-lt _ c.requires;
-  }
+  value = refl;
+  upper_bound = mod-lt _ c.requires;
+}

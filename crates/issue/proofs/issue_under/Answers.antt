@@ -44,9 +44,9 @@ pub issued-c-requires : goal.issued-c-requires
 issued-c-requires c =
     let a = c.args in
     let k = admitted a.shape a.records a.media.now a.tables.now a.server _ (c.admit_server-k.ensures a.media.now a.tables.now refl refl) c.in_default.is in record {
-    content_len_bound = fits_place a.limits (length a.content.now) (length a.locks.now) c.requires (holds_not _ c.judge-k.ensures c.in-Pass.is 12);
-    issued_bound = omega (arith, k.fits.issued, k.most);
-  }
+      content_len_bound = fits_place a.limits (length a.content.now) (length a.locks.now) c.requires (holds_not _ c.judge-k.ensures c.in-Pass.is 12);
+      issued_bound = omega (arith, k.fits.issued, k.most);
+    }
 
 pub overflow_add-v : goal.overflow_add-v
 overflow_add-v c =

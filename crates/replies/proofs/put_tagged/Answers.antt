@@ -16,8 +16,8 @@ returns c =
     let d = c.put_decimal-n in
     let n = d.ensures.value in
     let q : 3 + length (decimal_of a.v) ≡ 3 + d.result = omega arith in record {
-    value = simp length-append (omega arith);
-    out_after = c.put-2.ensures
+      value = simp length-append (omega arith);
+      out_after = c.put-2.ensures
           ∙ ap (write_at (3 + d.result) (10 ∷ [])) (d.ensures.out_after ∙ ap (write_at 3 (decimal_of a.v)) c.put.ensures)
           ∙ write_three a.out.now a.word.now (decimal_of a.v) (10 ∷ []) 3 (3 + d.result) (omega arith) q (omega arith);
-  }
+    }

@@ -11,9 +11,9 @@ use Rattle.restore.proofs.restore.Goals as goal
 pub put_back-requires : goal.put_back-requires
 put_back-requires c =
     let a = c.args in record {
-    t_value = c.tables-t.ensures;
-    fits = fitting a.shape a.records a.media.now a.tables.now a.replica a.backup.now c.judge-k.ensures c.in-Pass.is;
-  }
+      t_value = c.tables-t.ensures;
+      fits = fitting a.shape a.records a.media.now a.tables.now a.replica a.backup.now c.judge-k.ensures c.in-Pass.is;
+    }
 
 pub returns-in-Refuse : goal.returns-in-Refuse
 unfolding step

@@ -17,9 +17,9 @@ returns-then-other_length c =
 pub has_no_slot-unslotted-requires : goal.has_no_slot-unslotted-requires
 has_no_slot-unslotted-requires c =
     let a = c.args in record {
-    t_value = c.requires;
-    slots_size_in_bounds = omega (arith, eqb-true (length a.backup.now) (medium_size a.shape.places) (not-false _ (sym c.other_length.ensures ∙ c.if-other_length.false)));
-  }
+      t_value = c.requires;
+      slots_size_in_bounds = omega (arith, eqb-true (length a.backup.now) (medium_size a.shape.places) (not-false _ (sym c.other_length.ensures ∙ c.if-other_length.false)));
+    }
 
 pub returns : goal.returns
 returns c =

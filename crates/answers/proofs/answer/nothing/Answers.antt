@@ -9,7 +9,6 @@ use Rattle.answers.specs.Answers.{nothing}
 use Rattle.answers.proofs.answer.nothing.Goals as goal
 
 records-requires : tie.Need-records-requires
-
 records-requires c κs = search rules
 
 with-records : Records → Held

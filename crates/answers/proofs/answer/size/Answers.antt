@@ -21,6 +21,6 @@ overflow_mul-result-2 c = omega (arith, media_fit c.args.h c.requires)
 
 pub returns : goal.returns
 returns c = record {
-    value = refl;
-    upper_bound = media_fit c.args.h c.requires;
-  }
+  value = refl;
+  upper_bound = media_fit c.args.h c.requires;
+}

@@ -6,10 +6,10 @@ use Rattle.driver_stages.proofs.copies.catch_up.Goals as goal
 pub copy_all-requires : goal.copy_all-requires
 copy_all-requires c =
     let p = c.requires in record {
-    given_len = p.given_len;
-    server_bound = p.server_bound;
-    calls_bound = (p.calls_bound.0, rw c.highest_known-mark.ensures p.calls_bound.1);
-  }
+      given_len = p.given_len;
+      server_bound = p.server_bound;
+      calls_bound = (p.calls_bound.0, rw c.highest_known-mark.ensures p.calls_bound.1);
+    }
 
 pub returns : goal.returns
 returns c =

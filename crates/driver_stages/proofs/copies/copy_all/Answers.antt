@@ -15,10 +15,10 @@ pub copy_to-r-requires : goal.copy_to-r-requires
 copy_to-r-requires c =
     let p = c.requires in
     let named = p.server_bound.1 in record {
-    given_len = p.given_len;
-    server_bound = (p.server_bound.0, named.below _ c.loop-k-test.true);
-    mark_bound = omega (arith, named.few, p.calls_bound, c.loop-k.invariant.2, c.loop-k-test.true);
-  }
+      given_len = p.given_len;
+      server_bound = (p.server_bound.0, named.below _ c.loop-k-test.true);
+      mark_bound = omega (arith, named.few, p.calls_bound, c.loop-k.invariant.2, c.loop-k-test.true);
+    }
 
 pub loop-k-preserved : goal.loop-k-preserved
 loop-k-preserved c =

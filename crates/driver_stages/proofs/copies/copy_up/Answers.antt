@@ -19,9 +19,9 @@ returns-then-mark-mark_of c =
 
 pub copy_record-r-requires : goal.copy_record-r-requires
 copy_record-r-requires c = record {
-    given_len = c.requires.given_len;
-    calls_bound = omega arith;
-  }
+  given_len = c.requires.given_len;
+  calls_bound = omega arith;
+}
 
 pub returns-then-not-is_ok : goal.returns-then-not-is_ok
 returns-then-not-is_ok c =

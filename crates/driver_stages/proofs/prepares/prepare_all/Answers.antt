@@ -11,9 +11,9 @@ loop-k-init c = (search rules, refl, omega arith, refl)
 
 pub prepare_replica-r-requires : goal.prepare_replica-r-requires
 prepare_replica-r-requires c = record {
-    given_len = c.requires.given_len;
-    calls_bound = omega arith;
-  }
+  given_len = c.requires.given_len;
+  calls_bound = omega arith;
+}
 
 pub loop-k-preserved : goal.loop-k-preserved
 loop-k-preserved c =

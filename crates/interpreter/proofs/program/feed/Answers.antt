@@ -20,17 +20,17 @@ returns-then-j-chunk c =
     let l = c.loop-i in
     let f = c.find-j in
     let k = c.keep in record {
-    n_le_line_room_2 = (search rules, omega (arith, l.invariant.2));
-    out_after = sym (l.invariant.4 ∙ end_turn a.chunk.now l.i f.result l.invariant.3 f.ensures.0 l.state.n l.state.o k.result l.state.held l.line k.new.held l.m l.tables l.out l.invariant.0.line (search rules) k.ensures.value k.ensures.held_after c.if-j-chunk.true);
-  }
+      n_le_line_room_2 = (search rules, omega (arith, l.invariant.2));
+      out_after = sym (l.invariant.4 ∙ end_turn a.chunk.now l.i f.result l.invariant.3 f.ensures.0 l.state.n l.state.o k.result l.state.held l.line k.new.held l.m l.tables l.out l.invariant.0.line (search rules) k.ensures.value k.ensures.held_after c.if-j-chunk.true);
+    }
 
 pub reply-state-requires : goal.reply-state-requires
 reply-state-requires c =
     let l = c.loop-i.invariant in record {
-    t_value = c.requires.t_value;
-    lent = record { media = l.0.media; tables = l.0.tables; line = search rules; content = l.0.content; locks = l.0.locks; out = l.0.out };
-    n_le_line_room = (search rules, omega (arith, l.2, c.loop-test.true));
-  }
+      t_value = c.requires.t_value;
+      lent = record { media = l.0.media; tables = l.0.tables; line = search rules; content = l.0.content; locks = l.0.locks; out = l.0.out };
+      n_le_line_room = (search rules, omega (arith, l.2, c.loop-test.true));
+    }
 
 pub loop-i-smaller : goal.loop-i-smaller
 loop-i-smaller c =
@@ -55,6 +55,6 @@ loop-i-preserved c =
 pub returns : goal.returns
 returns c =
     let l = c.loop-i in record {
-    n_le_line_room_2 = (search rules, omega (arith, l.invariant.2));
-    out_after = sym (l.invariant.4 ∙ fed_none (program_of l.state.n l.state.o l.state.held l.line l.m l.tables l.out) _ l.i c.loop-i-test.false);
-  }
+      n_le_line_room_2 = (search rules, omega (arith, l.invariant.2));
+      out_after = sym (l.invariant.4 ∙ fed_none (program_of l.state.n l.state.o l.state.held l.line l.m l.tables l.out) _ l.i c.loop-i-test.false);
+    }

@@ -26,8 +26,8 @@ pub returns : goal.returns
 returns c =
     let a = c.args in
     let r = c.print-k in record {
-    upper_bound = omega (arith, text_short a.printed, r.ensures.value, c.requires);
-    value = ap (λ (k : ℕ). a.o + k) r.ensures.value;
-    out_after = c.put.ensures
-            ∙ ap (λ (l : List ℕ). write_at a.o l a.out.now) (first_written (text_of a.printed) _ r.new.out (r.result - 0) (sub_none r.result ∙ r.ensures.value) r.ensures.out_after);
-  }
+      upper_bound = omega (arith, text_short a.printed, r.ensures.value, c.requires);
+      value = ap (λ (k : ℕ). a.o + k) r.ensures.value;
+      out_after = c.put.ensures
+          ∙ ap (λ (l : List ℕ). write_at a.o l a.out.now) (first_written (text_of a.printed) _ r.new.out (r.result - 0) (sub_none r.result ∙ r.ensures.value) r.ensures.out_after);
+    }

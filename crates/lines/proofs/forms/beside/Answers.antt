@@ -27,9 +27,9 @@ pub read-requires : goal.read-requires
 read-requires c =
     let h = c.is_hex in
     let f = c.field-digits.ensures in record {
-    s_value = sym h.ensures ∙ c.if-not-is_hex.false;
-    s_len_bound = omega (arith, ap length f, field_short 5 c.args.line.now);
-  }
+      s_value = sym h.ensures ∙ c.if-not-is_hex.false;
+      s_len_bound = omega (arith, ap length f, field_short 5 c.args.line.now);
+    }
 
 pub read_numbers-requires : goal.read_numbers-requires
 read_numbers-requires c = omega (arith, count_few c.args.line.now)

@@ -26,12 +26,12 @@ pub perform-requires : goal.perform-requires
 perform-requires c =
     let p = c.requires in
     let d = c.read_medium-r.ensures in record {
-    t_value = p.t_value;
-    as_read = d.1;
-    has_place = rw (← d.0) at p.has_place.0;
-    src_len = p.src_len.0;
-    given_len = p.src_len.1;
-  }
+      t_value = p.t_value;
+      as_read = d.1;
+      has_place = rw (← d.0) at p.has_place.0;
+      src_len = p.src_len.0;
+      given_len = p.src_len.1;
+    }
 
 pub mark_after-requires : goal.mark_after-requires
 mark_after-requires c =
@@ -41,11 +41,11 @@ mark_after-requires c =
     let d = c.read_medium-r.ensures in
     let j = rw c.is_prepare.ensures at c.judged-j.ensures.0 in
     let w = c.perform.ensures ∙ ap (λ (n : ℕ). after a.f a.given.now (writes_of n a.src.now a.op a.m.now) a.m.now) d.0 in record {
-    t_value = p.t_value;
-    m_len = omega (arith, c.perform.auto.m, p.medium.size, d.0);
-    mark_known = known_mark r a.places a.m.now d.0 d.1 a.f a.given.now a.session a.recorded a.op a.src.now _ p.src_len.0 p.has_place.0 p.has_place.1
-            (sym j ∙ c.if-j.false) w (sym c.answers.ensures ∙ c.if-answers.true);
-  }
+      t_value = p.t_value;
+      m_len = omega (arith, c.perform.auto.m, p.medium.size, d.0);
+      mark_known = known_mark r a.places a.m.now d.0 d.1 a.f a.given.now a.session a.recorded a.op a.src.now _ p.src_len.0 p.has_place.0 p.has_place.1
+          (sym j ∙ c.if-j.false) w (sym c.answers.ensures ∙ c.if-answers.true);
+    }
 
 pub returns-then-answers : goal.returns-then-answers
 returns-then-answers c =

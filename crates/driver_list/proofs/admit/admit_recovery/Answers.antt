@@ -12,14 +12,12 @@ returns-then-other_given c =
 
 pub returns-in-Refuse : goal.returns-in-Refuse
 returns-in-Refuse c =
-    let u = c in
-    let a = u.before.before.before.before.before.before.before.before.args in
-    by_replica a.shape (state_of a.records a.media.now a.tables.now) a.server a.listed.now a.fates.now a.given.now u.before.before.other-given.ensures u.before.if1.false
-    u.not-below.ensures (c.admit_replica-k.ensures a.media.now a.tables.now refl refl) (ap verdict_of c.in-Refuse.is)
+    let a = c.args in
+    by_replica a.shape (state_of a.records a.media.now a.tables.now) a.server a.listed.now a.fates.now a.given.now c.other_given.ensures c.if-other_given.false
+    c.not_below.ensures (c.admit_replica-k.ensures a.media.now a.tables.now refl refl) (ap verdict_of c.in-Refuse.is)
 
 pub returns : goal.returns
 returns c =
-    let u = c in
-    let a = u.before.before.before.before.before.before.before.before.args in
-    by_list a.shape (state_of a.records a.media.now a.tables.now) a.server a.listed.now a.fates.now a.given.now u.before.before.other-given.ensures u.before.if1.false
-    u.not-below.ensures (c.admit_replica-k.ensures a.media.now a.tables.now refl refl) c.unfit_list.ensures c.also.ensures
+    let a = c.args in
+    by_list a.shape (state_of a.records a.media.now a.tables.now) a.server a.listed.now a.fates.now a.given.now c.other_given.ensures c.if-other_given.false
+    c.not_below.ensures (c.admit_replica-k.ensures a.media.now a.tables.now refl refl) c.unfit_list.ensures c.also.ensures

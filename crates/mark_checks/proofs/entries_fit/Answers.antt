@@ -1,7 +1,7 @@
 -- `checks::entries_fit`. The invariant: ok says whether the closing marks of the entries below i and below R fit.
 use mathlib.Core.Path.{ap, ◌∙◌}
 use Rattle.base.specs.Below.{all}
-use Rattle.cluster.specs.Refusals.{closing_fits, entries_fit}
+use Rattle.cluster.specs.Refusals.{entries_fit}
 use native.Mathlib.Omega.{arith}
 use borrow.Author.Rules.{rules}
 use Rattle.mark_checks.proofs.Bounded.{bounded_none, bounded_step}

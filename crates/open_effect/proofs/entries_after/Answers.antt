@@ -3,7 +3,6 @@
 use mathlib.Core.Path.{ap, ◌∙◌}
 use Rattle.base.specs.Below.{up_to}
 use Rattle.base.proofs.Below.{up_to_step}
-use Rattle.cluster.specs.Effects.{entry_after}
 use native.Mathlib.Omega.{arith}
 use borrow.Author.Rules.{rules}
 use Rattle.open_effect.proofs.entries_after.Goals as goal

@@ -1,6 +1,6 @@
 -- `checks::is_outside`: each return is one of the cases of refusal 1, in the code's order; R and N bound the product (`media_fit`).
 use mathlib.Core.Path.{◌≡◌, sym, ◌∙◌}
-use mathlib.Core.Bool.{Bool, true, false, not}
+use mathlib.Core.Bool.{Bool, true, false}
 use Rattle.shape_checks.proofs.Sizes.{replicas_le, at_most, media_fit, out_replicas, out_places, out_interval, out_media, by_tables}
 use native.Mathlib.Omega.{arith}
 use Rattle.shape_checks.proofs.is_outside.Goals as goal

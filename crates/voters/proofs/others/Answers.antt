@@ -2,7 +2,6 @@
 use mathlib.Core.Path.{ap, ◌∙◌}
 use Rattle.base.specs.Below.{up_to}
 use Rattle.base.proofs.Below.{up_to_step}
-use Rattle.cluster.specs.State.{is_restored}
 use native.Mathlib.Omega.{arith}
 use borrow.Author.Rules.{rules}
 use Rattle.voters.proofs.others.Goals as goal

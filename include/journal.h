@@ -1,6 +1,6 @@
 /* Calls of the journal that a C or C++ program may make directly.
  *
- * Link target/staticlib/libjournal.a, which `rt staticlib journal` writes; it is for x86-64 Linux and needs no library but C's.
+ * Link target/staticlib/libjournal.a, which `tools/archive` writes; it is for x86-64 Linux and needs no library but C's.
  * Only journal_convert writes to memory that it is given, and only to its second slice. No call keeps anything between calls or
  * allocates: all may be called from several threads at once. A call takes up to 9 KiB of stack; where memset is bound at its
  * first use, the dynamic linker takes more for that.

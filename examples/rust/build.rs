@@ -1,4 +1,4 @@
-//! Says where libjournal.a is: in the folder that JOURNAL_FOLDER names, or where `rt staticlib`
+//! Says where libjournal.a is: in the folder that JOURNAL_FOLDER names, or where `tools/archive`
 //! writes it.
 
 use std::env;

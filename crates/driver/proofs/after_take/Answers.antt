@@ -23,17 +23,15 @@ catch_up-c-requires c =
 
 pub open_session-requires : goal.open_session-requires
 open_session-requires c =
-    let u = c in
-    let a = u.before.before.before.before.before.before.before.before.before.before.before.before.before.args in
-    let p = u.before.before.before.before.before.before.before.before.before.before.before.before.before.requires in
+    let a = c.args in
+    let p = c.requires in
     let d = asked_of a.server a.listed.now a.fates.now a.given.now in
     let t = trail_of a.g a.media.now a.tables.now in
-    let n = p.1.1.0 in
-    let few : a.g.calls + length a.listed.now ≤ 8 = omega (arith, p.1.1.1, n.2.few) in
-    count_copied a.shape d t u.before.before.before.before.before.prepare-all.ensures few (record { inside = p.0.0; fits = p.0.1 }) n.0 n.1 u.catch-up.ensures n.2.few
+    let n = p.server_bound in
+    let few : a.g.calls + length a.listed.now ≤ 8 = omega (arith, p.calls_bound, n.2.few) in
+    count_copied a.shape d t c.prepare_all-p.ensures few (record { inside = p.tables_value.0; fits = p.tables_value.1 }) n.0 n.1 c.catch_up-c.ensures n.2.few
 
 pub returns : goal.returns
 returns c =
-    let u = c in
-    let a = u.before.before.before.before.before.before.before.before.before.before.before.before.before.args in
-    after_take_is a.shape _ (trail_of a.g a.media.now a.tables.now) u.before.before.before.before.before.prepare-all.ensures u.catch-up.ensures (c.open_session.ensures a.listed.now a.given.now)
+    let a = c.args in
+    after_take_is a.shape _ (trail_of a.g a.media.now a.tables.now) c.prepare_all-p.ensures c.catch_up-c.ensures (c.open_session.ensures a.listed.now a.given.now)

@@ -5,7 +5,7 @@ ghost use Rattle.storage.specs.Sizes.{medium_size};
 ghost use Rattle.lines.specs.Forms.{line_limit, meaning_of};
 ghost use Rattle.shapes.specs.Shapes.{accepted};
 ghost use Rattle.answers.specs.Sizes.{media_limit, tables_length};
-ghost use Rattle.answers.specs.Answers.{nothing as Answers·nothing, after_of, cluster_line, call_line, input_of, answer_to};
+ghost use Rattle.answers.specs.Answers.{nothing as nothing_held, after_of, cluster_line, call_line, input_of, answer_to};
 
 use cluster::{Answer, Call, Records, Refusal, Shape};
 use crc32::Tables;
@@ -31,7 +31,7 @@ pub struct Next {
 }
 
 pub fn nothing() -> Held
-    ensures { result ≡ Answers·nothing }
+    ensures { result ≡ nothing_held }
 {
     Held {
         shape: Shape {
@@ -63,7 +63,7 @@ fn cluster_line(
     m: &mut [u8],
     tables: &mut [u64],
 ) -> Next
-    requires t_value { (t.now ≡ tables_of) × (blank ≡ Answers·nothing.records) }
+    requires t_value { (t.now ≡ tables_of) × (blank ≡ nothing_held.records) }
     requires m_len { length m.old ≡ media_limit }
     requires tables_len { length tables.old ≡ tables_length }
     ensures { after_of result m.new tables.new ≡ cluster_line shape h m.old tables.old }
@@ -150,7 +150,7 @@ pub fn answer(
     content: &mut [u8],
     locks: &mut [u64],
 ) -> Next
-    requires t_value { (t.now ≡ tables_of) × (blank ≡ Answers·nothing.records) }
+    requires t_value { (t.now ≡ tables_of) × (blank ≡ nothing_held.records) }
     requires m_len { length m.old ≡ media_limit }
     requires tables_len { length tables.old ≡ tables_length }
     requires content_len { length content.old ≡ line_limit }

@@ -21,7 +21,7 @@ returns c =
     let a = c.args in
     let r = c.apply-o in
     let z = c.size-n in
-    let e = sym c.is_accepted.ensures ∙ c.if1.false in
-    let l = r.auto.content ∙ length_part 0 (z.result - 0) a.m.now (omega (arith, c.requires, z.ensures.upper_bound)) ∙ sub_none z.result in
-    made_call (input_of a.call a.content.now a.locks.now) a.h a.m.now a.tables.now r.new.content r.new.locks z.result r.result e
+    let e = sym c.is_accepted.ensures ∙ c.if-not-is_accepted.false in
+    let l = r.auto.media ∙ length_part 0 (z.result - 0) a.m.now (omega (arith, c.requires, z.ensures.upper_bound)) ∙ sub_none z.result in
+    made_call (input_of a.call a.content.now a.locks.now) a.h a.m.now a.tables.now r.new.media r.new.tables z.result r.result e
     z.ensures.value l r.ensures.0

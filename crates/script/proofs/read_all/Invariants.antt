@@ -1,4 +1,4 @@
--- `read_all`. The invariant: what is lent keeps its sizes, and all replies are written. The measure is the number of turns left.
+-- `read_all`. The invariant: what is lent keeps its sizes, and all replies are written.
 -- Assumes nothing.
 use mathlib.Core.Path.{◌≡◌}
 use Prim.Native.Nat.{◌≤◌}
@@ -6,10 +6,6 @@ use lib.ListN.{length}
 use Rattle.answers.specs.Sizes.{line_room, Lent}
 use Rattle.script.proofs.read_all.Given as goal
 
-abbrev pub invariant-loop-turns : goal.invariant-loop-turns
-invariant-loop-turns l =
+abbrev pub invariant-loop : goal.invariant-loop
+invariant-loop g l =
     Lent (length l.m) (length l.tables) (length l.line) (length l.content) (length l.locks) (length l.out) × (l.last.state.n ≤ line_room) × (l.last.state.o ≡ 0)
-
-abbrev pub decreases-loop-turns : goal.decreases-loop-turns
-decreases-loop-turns l =
-    l.turns

@@ -9,7 +9,6 @@ use lib.Dec.{eqb, leb}
 use borrow.Author.Tests.{leb-true, eqb-true}
 use Rattle.base.proofs.Tests.{both, either}
 use Rattle.cluster.specs.declared.Shape.{Shape}
-use Rattle.cluster.specs.Refusals.{replicas_fit}
 use Rattle.shapes.specs.Shapes.{accepted}
 
 pub record Bounded (h : Shape) : Type 0 where
@@ -18,8 +17,7 @@ pub record Bounded (h : Shape) : Type 0 where
   pub some_places : 1 ≤ h.places
   pub places : h.places ≤ 100
 
-within_seven : (r : ℕ) → replicas_fit r ≡ true → (1 ≤ r) × (r ≤ 7)
-unfolding replicas_fit
+within_seven : (r : ℕ) → (eqb r 1 || eqb r 3 || eqb r 5 || eqb r 7) ≡ true → (1 ≤ r) × (r ≤ 7)
 within_seven r e =
     ⊎_elim
     (λ x. ⊎_elim
@@ -34,7 +32,7 @@ module _ (h : Shape) (e : accepted h ≡ true) where
   pub bounded : Bounded h
   unfolding accepted
   bounded =
-      let a = both (leb 1 h.places && leb h.places 100) (replicas_fit h.replicas) e in
+      let a = both (leb 1 h.places && leb h.places 100) (eqb h.replicas 1 || eqb h.replicas 3 || eqb h.replicas 5 || eqb h.replicas 7) e in
       let n = both (leb 1 h.places) (leb h.places 100) a.0 in
       let r = within_seven h.replicas a.1 in
       record { some_replicas = r.0; replicas = r.1; some_places = leb-true 1 h.places n.0; places = leb-true h.places 100 n.1 }

@@ -29,13 +29,13 @@ reply-state-requires c =
     let l = c.loop-i.invariant in record {
       t_value = c.requires.t_value;
       lent = record { media = l.0.media; tables = l.0.tables; line = search rules; content = l.0.content; locks = l.0.locks; out = l.0.out };
-      n_le_line_room = (search rules, omega (arith, l.2, c.loop-test.true));
+      n_le_line_room = (search rules, omega (arith, l.2, c.loop-i-test.true));
     }
 
 pub loop-i-smaller : goal.loop-i-smaller
 loop-i-smaller c =
     let f = c.find-j.ensures in
-    omega (arith, c.if1.false, f.0, f.1)
+    omega (arith, c.if-j-chunk.false, f.0, f.1)
 
 pub loop-i-preserved : goal.loop-i-preserved
 loop-i-preserved c =
@@ -44,7 +44,7 @@ loop-i-preserved c =
     let f = c.find-j in
     let k = c.keep in
     let r = c.reply-state in
-    let x : f.result < length a.chunk.now = omega (arith, c.if1.false, f.ensures.1) in (
+    let x : f.result < length a.chunk.now = omega (arith, c.if-j-chunk.false, f.ensures.1) in (
       search rules,
       search rules,
       omega (arith, x, f.ensures.0, r.ensures.n_value.1, l.invariant.2),

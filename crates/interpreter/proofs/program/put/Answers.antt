@@ -17,7 +17,7 @@ slice_bounds-put-end c = omega (arith, text_short c.args.printed, c.print-k.ensu
 pub put-requires : goal.put-requires
 put-requires c =
     let r = c.print-k in
-    omega (arith, text_short c.args.printed, r.ensures.value, length-take (r.result - 0) r.new.out, (c.requires.out_len, c.requires.o_bound))
+    omega (arith, text_short c.args.printed, r.ensures.value, length-take (r.result - 0) r.new.out, c.requires.out_len, c.requires.o_bound)
 
 pub overflow_add-result : goal.overflow_add-result
 overflow_add-result c = omega (arith, text_short c.args.printed, c.print-k.ensures.value, c.requires)

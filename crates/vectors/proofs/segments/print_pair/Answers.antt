@@ -5,7 +5,7 @@ use Rattle.segment.proofs.Writing.{all_sized}
 use Rattle.vectors.proofs.segments.print_pair.Goals as goal
 
 pub write_pair-requires : goal.write_pair-requires
-write_pair-requires c =
+write_pair-requires g c =
     let a = c.args in
     let p = c.requires in
     let m = a.m.now in

@@ -9,7 +9,7 @@ use Rattle.segment.proofs.Writing.{all_sized, sizes_bound}
 use Rattle.vectors.proofs.segments.write_out.Goals as goal
 
 pub data_size-size-requires : goal.data_size-size-requires
-data_size-size-requires c =
+data_size-size-requires g c =
     let a = c.args in
     let p = c.requires in
     let m = a.m.now in
@@ -20,21 +20,21 @@ data_size-size-requires c =
     }
 
 pub overflow_mul-end : goal.overflow_mul-end
-overflow_mul-end c = omega (arith, c.mark-k.ensures, mark_le c.args.places c.args.m.now, c.requires)
+overflow_mul-end g c = omega (arith, c.mark-k.ensures, mark_le c.args.places c.args.m.now, c.requires)
 
 pub overflow_add-end : goal.overflow_add-end
-overflow_add-end c = omega (arith, c.mark-k.ensures, mark_le c.args.places c.args.m.now, c.requires)
+overflow_add-end g c = omega (arith, c.mark-k.ensures, mark_le c.args.places c.args.m.now, c.requires)
 
 pub slice_bounds-file-end : goal.slice_bounds-file-end
-slice_bounds-file-end c =
+slice_bounds-file-end g c =
     let a = c.args in
-    omega (arith, sizes_bound c.mark-k.result c.mark-k.result 1 a.m.now (all_sized a.places c.mark-k.result a.m.now (omega (arith, c.mark-k.ensures))) (omega arith) (omega arith), c.data_size-size.ensures, c.mark-k.ensures, mark_le a.places a.m.now, (c.requires.t_value, (c.requires.m_len, c.requires.places_bound)))
+    omega (arith, sizes_bound c.mark-k.result c.mark-k.result 1 a.m.now (all_sized a.places c.mark-k.result a.m.now (omega (arith, c.mark-k.ensures))) (omega arith) (omega arith), c.data_size-size.ensures, c.mark-k.ensures, mark_le a.places a.m.now, c.requires)
 
 pub slice_bounds-index-end : goal.slice_bounds-index-end
-slice_bounds-index-end c = omega (arith, c.mark-k.ensures, mark_le c.args.places c.args.m.now, c.requires)
+slice_bounds-index-end g c = omega (arith, c.mark-k.ensures, mark_le c.args.places c.args.m.now, c.requires)
 
 pub print_pair-requires : goal.print_pair-requires
-print_pair-requires c =
+print_pair-requires g c =
     let a = c.args in
     let p = c.requires in
     let l = mark_le a.places a.m.now in

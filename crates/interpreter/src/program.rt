@@ -121,6 +121,7 @@ pub fn feed(
 }
 
 // The end of the input.
+#[tactic(auto, using(crate::proofs::Fed::closed_none, crate::proofs::Fed::closed_line))]
 pub fn finish(
     t: &Tables,
     blank: Records,

@@ -6,6 +6,7 @@ ghost use Rattle.shapes.specs.Shapes.{accepted};
 
 use cluster::Shape;
 
+#[tactic(auto, unfolding(crate::specs::Shapes::accepted))]
 pub fn is_accepted(h: Shape) -> bool
     ensures { result ≡ accepted h }
 {

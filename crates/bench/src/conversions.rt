@@ -3,7 +3,7 @@ ghost use Rattle.std.specs.Prelude.{◌≡◌, ◌≤◌, length};
 ghost use Rattle.crc32.specs.Tables.{tables_of};
 ghost use Rattle.bench.specs.Sizes.{old_medium, one_medium};
 
-use crate::stage::{MEDIA, MEDIUM, TABLES};
+use crate::stage::MEDIUM;
 use crate::{stage, turns};
 use converter::Converted;
 use crc32::Tables;
@@ -72,7 +72,7 @@ fn make_old(out: &mut [u8], m: &[u8]) {
 }
 
 // A byte of a slot differs from turn to turn; the other slot is the current one.
-fn convert(before: &mut [u8; OLD_MEDIUM], after: &mut [u8; MEDIUM], turn: u64) -> u64 {
+fn convert(before: &mut [u8], after: &mut [u8], turn: u64) -> u64 {
     turns::mark_turn(before, turn);
     let Converted::Done = converter::convert::convert(before, after) else {
         return 0;
@@ -80,7 +80,7 @@ fn convert(before: &mut [u8; OLD_MEDIUM], after: &mut [u8; MEDIUM], turn: u64) -
     wrapping_add_u64(turns::byte(after, 0), turns::byte(after, ID_BYTE))
 }
 
-fn repeat(before: &mut [u8; OLD_MEDIUM], after: &mut [u8; MEDIUM], count: u64) -> u64 {
+fn repeat(before: &mut [u8], after: &mut [u8], count: u64) -> u64 {
     let mut sum: u64 = 0;
     let mut left = count;
     while 0 < left {
@@ -91,7 +91,7 @@ fn repeat(before: &mut [u8; OLD_MEDIUM], after: &mut [u8; MEDIUM], count: u64) -
 }
 
 // What so many conversions come to.
-pub fn total(m: &mut [u8; MEDIA], tables: &mut [u64; TABLES], count: u64) -> u64 {
+pub fn total(m: &mut [u8], tables: &mut [u64], count: u64) -> u64 {
     let mut before = [0u8; OLD_MEDIUM];
     let mut after = [0u8; MEDIUM];
     stage::filled(m, tables, 1000);

@@ -4,14 +4,14 @@
 // 1,000 places, 9 one issue of record 501. Each sets a cluster up, and then makes its turn as often as asked. A turn changes a byte that
 // its work does not depend on, or undoes what the turn before did, which counts, so that none can be saved; each issue starts from the
 // same records.
-use crate::stage::{MEDIA, MEDIUM, TABLES};
+use crate::stage::MEDIUM;
 use crate::{conversions, segments, stage, turns};
 use cluster::{Call, Closing, Entry, HELD, Records, Server};
 use fate::Fate;
 use servers::put_server;
 use std::num::wrapping_add_u64;
 
-fn reads(job: u64, m: &mut [u8; MEDIA], count: u64) -> u64 {
+fn reads(job: u64, m: &mut [u8], count: u64) -> u64 {
     let t = crc32::tables();
     let mut sum: u64 = 0;
     let mut left = count;
@@ -23,7 +23,7 @@ fn reads(job: u64, m: &mut [u8; MEDIA], count: u64) -> u64 {
 }
 
 // Server 1 has taken a session in which replica 0 was closed at mark 500.
-fn closed(r: Records, m: &mut [u8; MEDIA], tables: &mut [u64; TABLES]) -> Records {
+fn closed(r: Records, m: &mut [u8], tables: &mut [u64]) -> Records {
     let taken = stage::after(r, m, tables, Call::Take(1, Fate::Answered));
     let mut s = taken.servers[1];
     s.entries[0] = Entry {
@@ -43,7 +43,7 @@ fn records(job: u64) -> u64 {
 }
 
 // The records that each turn of a job's call starts from.
-fn ready(job: u64, r: Records, m: &mut [u8; MEDIA], tables: &mut [u64; TABLES]) -> Records {
+fn ready(job: u64, r: Records, m: &mut [u8], tables: &mut [u64]) -> Records {
     match job {
         3 => stage::issued(r, m, tables),
         4 => closed(r, m, tables),
@@ -66,18 +66,12 @@ fn newest(s: Server) -> u64 {
     wrapping_add_u64(s.issued, turns::byte(&held, HELD - 1))
 }
 
-fn issue(r: Records, m: &mut [u8; MEDIA], tables: &mut [u64; TABLES]) -> u64 {
+fn issue(r: Records, m: &mut [u8], tables: &mut [u64]) -> u64 {
     let next = stage::issued(r, m, tables);
     newest(next.servers[0])
 }
 
-fn turn(
-    job: u64,
-    r: Records,
-    full: &[u8; MEDIUM],
-    m: &mut [u8; MEDIA],
-    tables: &mut [u64; TABLES],
-) -> u64 {
+fn turn(job: u64, r: Records, full: &[u8], m: &mut [u8], tables: &mut [u64]) -> u64 {
     if job == 9 {
         return issue(r, m, tables);
     }
@@ -86,14 +80,7 @@ fn turn(
     wrapping_add_u64(before, stage::value(stage::make(r, m, tables, call(job))))
 }
 
-fn repeat(
-    job: u64,
-    r: Records,
-    full: &[u8; MEDIUM],
-    m: &mut [u8; MEDIA],
-    tables: &mut [u64; TABLES],
-    count: u64,
-) -> u64 {
+fn repeat(job: u64, r: Records, full: &[u8], m: &mut [u8], tables: &mut [u64], count: u64) -> u64 {
     let mut sum: u64 = 0;
     let mut left = count;
     while 0 < left {
@@ -103,7 +90,7 @@ fn repeat(
     sum
 }
 
-fn calls(job: u64, m: &mut [u8; MEDIA], tables: &mut [u64; TABLES], count: u64) -> u64 {
+fn calls(job: u64, m: &mut [u8], tables: &mut [u64], count: u64) -> u64 {
     let mut full = [0u8; MEDIUM];
     let filled = stage::filled(m, tables, records(job));
     turns::put_by(m, &mut full);
@@ -112,7 +99,7 @@ fn calls(job: u64, m: &mut [u8; MEDIA], tables: &mut [u64; TABLES], count: u64) 
 }
 
 // The media that a job reads: fresh, or full.
-fn set_up(job: u64, m: &mut [u8; MEDIA], tables: &mut [u64; TABLES]) {
+fn set_up(job: u64, m: &mut [u8], tables: &mut [u64]) {
     if job == 0 {
         stage::begun(m, tables);
         return;
@@ -121,7 +108,7 @@ fn set_up(job: u64, m: &mut [u8; MEDIA], tables: &mut [u64; TABLES]) {
 }
 
 // What a job done so often comes to.
-pub fn total(job: u64, m: &mut [u8; MEDIA], tables: &mut [u64; TABLES], count: u64) -> u64 {
+pub fn total(job: u64, m: &mut [u8], tables: &mut [u64], count: u64) -> u64 {
     match job {
         0..=2 => {
             set_up(job, m, tables);

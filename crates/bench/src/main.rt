@@ -38,7 +38,7 @@ fn job(names: &[u8], name: &[u8]) -> u64 {
 }
 
 // What a line asks for, if it has a job's form.
-fn answer(text: &[u8], m: &mut [u8; MEDIA], tables: &mut [u64; TABLES]) -> Option<u64> {
+fn answer(text: &[u8], m: &mut [u8], tables: &mut [u64]) -> Option<u64> {
     let Number::Is(count) = number::decimal(line::field(text, 1)) else {
         return None;
     };
@@ -64,8 +64,8 @@ fn say(to: &mut impl Write, answer: Option<u64>) -> io::Result<()> {
 fn answer_all(
     to: &mut impl Write,
     input: &[u8],
-    m: &mut [u8; MEDIA],
-    tables: &mut [u64; TABLES],
+    m: &mut [u8],
+    tables: &mut [u64],
 ) -> io::Result<()> {
     let mut i = 0;
     while i < input.len() {

@@ -1,5 +1,5 @@
 // An export of 1,000 places with 28 bytes of data each, and an import of that pair.
-use crate::stage::{MEDIA, MEDIUM, TABLES};
+use crate::stage::MEDIUM;
 use crate::{stage, turns};
 use cluster::{Call, Records};
 use fate::Fate;
@@ -24,11 +24,11 @@ const ID_BYTE: usize = SLOTS + 999 * PLACE + LONG - 1;
 // The time that is handed in differs from turn to turn.
 fn export(
     r: Records,
-    m: &mut [u8; MEDIA],
-    tables: &mut [u64; TABLES],
+    m: &mut [u8],
+    tables: &mut [u64],
     time: u64,
-    file: &mut [u8; DATA],
-    index: &mut [u8; INDEX],
+    file: &mut [u8],
+    index: &mut [u8],
 ) -> u64 {
     let call = Call::Export(0, 0, Fate::Answered);
     stage::make_with(r, m, tables, call, time, file, index);
@@ -37,10 +37,10 @@ fn export(
 
 fn exports(
     r: Records,
-    m: &mut [u8; MEDIA],
-    tables: &mut [u64; TABLES],
-    file: &mut [u8; DATA],
-    index: &mut [u8; INDEX],
+    m: &mut [u8],
+    tables: &mut [u64],
+    file: &mut [u8],
+    index: &mut [u8],
     count: u64,
 ) -> u64 {
     let mut sum: u64 = 0;
@@ -53,7 +53,7 @@ fn exports(
 }
 
 // A byte of a slot differs from turn to turn; the places are wiped again, which counts.
-fn import(m: &mut [u8; MEDIUM], turn: u64, file: &[u8; DATA], index: &[u8; INDEX]) -> u64 {
+fn import(m: &mut [u8], turn: u64, file: &[u8], index: &[u8]) -> u64 {
     turns::mark_turn(m, turn);
     let stamp = Stamp {
         time: 0,
@@ -65,7 +65,7 @@ fn import(m: &mut [u8; MEDIUM], turn: u64, file: &[u8; DATA], index: &[u8; INDEX
     id
 }
 
-fn imports(m: &mut [u8; MEDIUM], file: &[u8; DATA], index: &[u8; INDEX], count: u64) -> u64 {
+fn imports(m: &mut [u8], file: &[u8], index: &[u8], count: u64) -> u64 {
     let mut sum: u64 = 0;
     let mut left = count;
     while 0 < left {
@@ -76,7 +76,7 @@ fn imports(m: &mut [u8; MEDIUM], file: &[u8; DATA], index: &[u8; INDEX], count: 
 }
 
 // What a job done so often comes to: 6 exports, 7 imports.
-pub fn total(job: u64, m: &mut [u8; MEDIA], tables: &mut [u64; TABLES], count: u64) -> u64 {
+pub fn total(job: u64, m: &mut [u8], tables: &mut [u64], count: u64) -> u64 {
     let mut file = [0u8; DATA];
     let mut index = [0u8; INDEX];
     let r = stage::filled(m, tables, 1000);

@@ -15,8 +15,14 @@ pub const MEDIA: usize = 7 * MEDIUM;
 
 pub const TABLES: usize = 4096;
 
-// A fresh cluster.
-pub fn begun(m: &mut [u8; MEDIA], tables: &mut [u64; TABLES]) -> Records {
+// A fresh cluster; no call sees what is given where the lengths are not its own.
+pub fn begun(m: &mut [u8], tables: &mut [u64]) -> Records {
+    if m.len() != MEDIA {
+        return fresh::records();
+    }
+    if tables.len() != TABLES {
+        return fresh::records();
+    }
     let shape = Shape {
         replicas: REPLICAS,
         places: PLACES,
@@ -38,8 +44,8 @@ fn data_behind(issued: u64) -> [u8; DATA_LIMIT] {
 // One call, with a request's data, and without locks and backup. The key of an export's headers is all zeros.
 fn apply(
     r: Records,
-    m: &mut [u8; MEDIA],
-    tables: &mut [u64; TABLES],
+    m: &mut [u8],
+    tables: &mut [u64],
     call: Call,
     bytes: &[u8],
     time: u64,
@@ -77,8 +83,8 @@ fn apply(
 // A call that no request goes with.
 pub fn make_with(
     r: Records,
-    m: &mut [u8; MEDIA],
-    tables: &mut [u64; TABLES],
+    m: &mut [u8],
+    tables: &mut [u64],
     call: Call,
     time: u64,
     file: &mut [u8],
@@ -89,14 +95,14 @@ pub fn make_with(
 }
 
 // The same without files.
-pub fn make(r: Records, m: &mut [u8; MEDIA], tables: &mut [u64; TABLES], call: Call) -> Outcome {
+pub fn make(r: Records, m: &mut [u8], tables: &mut [u64], call: Call) -> Outcome {
     let mut file = [0u8; 1];
     let mut index = [0u8; 1];
     make_with(r, m, tables, call, 0, &mut file[0..0], &mut index[0..0])
 }
 
 // The records that a call leaves.
-pub fn after(r: Records, m: &mut [u8; MEDIA], tables: &mut [u64; TABLES], call: Call) -> Records {
+pub fn after(r: Records, m: &mut [u8], tables: &mut [u64], call: Call) -> Records {
     let o = make(r, m, tables, call);
     o.records
 }
@@ -119,13 +125,7 @@ fn message(server: u64, i: u64, sends: bool) -> Call {
 }
 
 // The same message to every replica.
-fn to_all(
-    r: Records,
-    m: &mut [u8; MEDIA],
-    tables: &mut [u64; TABLES],
-    server: u64,
-    sends: bool,
-) -> Records {
+fn to_all(r: Records, m: &mut [u8], tables: &mut [u64], server: u64, sends: bool) -> Records {
     let mut next = r;
     for i in 0..7 {
         next = after(next, m, tables, message(server, i, sends));
@@ -134,18 +134,13 @@ fn to_all(
 }
 
 // A server takes the next session and prepares every replica.
-pub fn prepared(
-    r: Records,
-    m: &mut [u8; MEDIA],
-    tables: &mut [u64; TABLES],
-    server: u64,
-) -> Records {
+pub fn prepared(r: Records, m: &mut [u8], tables: &mut [u64], server: u64) -> Records {
     let taken = after(r, m, tables, Call::Take(server, Fate::Answered));
     to_all(taken, m, tables, server, false)
 }
 
 // Server 0 issues a record, for a client of the booking system: it has more data than a gate may send.
-pub fn issued(r: Records, m: &mut [u8; MEDIA], tables: &mut [u64; TABLES]) -> Records {
+pub fn issued(r: Records, m: &mut [u8], tables: &mut [u64]) -> Records {
     let q = Request {
         mark: 0,
         client: 100,
@@ -171,7 +166,7 @@ pub fn issued(r: Records, m: &mut [u8; MEDIA], tables: &mut [u64; TABLES]) -> Re
 }
 
 // Server 0 issues n records, one after another, and sends each to every replica.
-fn stored(r: Records, m: &mut [u8; MEDIA], tables: &mut [u64; TABLES], n: u64) -> Records {
+fn stored(r: Records, m: &mut [u8], tables: &mut [u64], n: u64) -> Records {
     let mut next = r;
     let mut left = n;
     while 0 < left {
@@ -182,14 +177,14 @@ fn stored(r: Records, m: &mut [u8; MEDIA], tables: &mut [u64; TABLES], n: u64) -
 }
 
 // Server 0 of a fresh cluster opens the first session.
-fn opened(m: &mut [u8; MEDIA], tables: &mut [u64; TABLES]) -> Records {
+fn opened(m: &mut [u8], tables: &mut [u64]) -> Records {
     let fresh = begun(m, tables);
     let ready = prepared(fresh, m, tables, 0);
     after(ready, m, tables, Call::Open(0, Fate::Answered))
 }
 
 // It stores n records then.
-pub fn filled(m: &mut [u8; MEDIA], tables: &mut [u64; TABLES], n: u64) -> Records {
+pub fn filled(m: &mut [u8], tables: &mut [u64], n: u64) -> Records {
     let open = opened(m, tables);
     stored(open, m, tables, n)
 }

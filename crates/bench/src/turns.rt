@@ -80,7 +80,7 @@ pub fn mark_turn(m: &mut [u8], turn: u64) {
 }
 
 // A turn of a job that reads media: the CRC, or the marks of all seven.
-pub fn read(t: &Tables, job: u64, m: &mut [u8; MEDIA], turn: u64) -> u64
+pub fn read(t: &Tables, job: u64, m: &mut [u8], turn: u64) -> u64
     requires { t.now ≡ tables_of }
 {
     mark_turn(m, turn);

@@ -1,6 +1,6 @@
 // export, server, replica, FATE, time, length of the data file, length of the index file, KEY: the call with two files, each byte of which is AA before it.
 // Their check sums after it stand behind the others.
-use crate::{BACKUP, MEDIA, TABLES, perform};
+use crate::perform;
 use cluster::Call;
 use replay_state::cells::Cells;
 use replay_state::{fields, sums};
@@ -22,9 +22,9 @@ const UNTOUCHED: u8 = 170;
 pub fn fits(
     to: &mut impl Write,
     line: &[u8],
-    m: &mut [u8; MEDIA],
-    tables: &mut [u64; TABLES],
-    backup: &[u8; BACKUP],
+    m: &mut [u8],
+    tables: &mut [u64],
+    backup: &[u8],
     w: &mut Cells,
 ) -> io::Result<bool> {
     let FateField::Is(f) = fates::read(line, 3) else {
@@ -71,9 +71,9 @@ fn with_files(
     stamp: Stamp,
     file: &mut [u8],
     index: &mut [u8],
-    m: &mut [u8; MEDIA],
-    tables: &mut [u64; TABLES],
-    backup: &[u8; BACKUP],
+    m: &mut [u8],
+    tables: &mut [u64],
+    backup: &[u8],
     w: &mut Cells,
 ) -> io::Result<()> {
     perform::perform(to, call, stamp, file, index, m, tables, backup, w)?;

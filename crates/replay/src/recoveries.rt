@@ -3,7 +3,7 @@
 // count of calls stands behind the reply.
 ghost use Rattle.std.specs.Prelude.{◌≤◌};
 
-use crate::{MEDIA, TABLES, perform};
+use crate::perform;
 use recovery::Recovered;
 use replay_state::cells::{Cells, GIVEN, LENT};
 use replay_state::{cells, fields, records};
@@ -152,10 +152,10 @@ fn keep(to: &mut impl Write, o: Recovered, w: &mut Cells) -> io::Result<()> {
 fn with_bytes(
     to: &mut impl Write,
     line: &[u8],
-    listed: &[u64; LISTED],
-    fates: &[u64; FATES],
-    m: &mut [u8; MEDIA],
-    tables: &mut [u64; TABLES],
+    listed: &[u64],
+    fates: &[u64],
+    m: &mut [u8],
+    tables: &mut [u64],
     w: &mut Cells,
 ) -> io::Result<()> {
     let given = beside(perform::least(fields::at(line, 3), FATES - 1), w);
@@ -176,8 +176,8 @@ fn with_bytes(
 pub fn fits(
     to: &mut impl Write,
     line: &[u8],
-    m: &mut [u8; MEDIA],
-    tables: &mut [u64; TABLES],
+    m: &mut [u8],
+    tables: &mut [u64],
     w: &mut Cells,
 ) -> io::Result<bool> {
     let mut listed = [0u64; LISTED];

@@ -1,6 +1,5 @@
 -- `read_all`: what is lent keeps its sizes, and all replies are written.
 -- Assumes nothing.
-use borrow.Author.Rules.{rules}
 use Rattle.script.proofs.read_all.Goals as goal
 
 pub answer_piece-requires : goal.answer_piece-requires

@@ -3,6 +3,8 @@
 // What stdout must equal comes from the other implementation (twin/src/jobs.rs), which does the same jobs.
 #![tactic(auto)]
 
+ghost use Rattle.std.specs.Prelude.{◌≤◌, length, IfOk};
+
 use crate::stage::{MEDIA, TABLES};
 use std::io;
 use std::io::{Read, Write};
@@ -17,7 +19,7 @@ mod stage;
 mod turns;
 
 // The most bytes of input that are read.
-const LONGEST: u64 = 4096;
+const LONGEST: usize = 4096;
 
 // How many jobs there are.
 const JOBS: u64 = 10;
@@ -79,11 +81,26 @@ fn answer_all(
     Ok(())
 }
 
+// The input, in front in what is lent, as far as there is room: how many bytes it has.
+fn read_full(input: &mut impl Read, room: &mut [u8]) -> io::Result<usize>
+    ensures { IfOk result (λ n. n ≤ length room.old) }
+{
+    let mut n = 0;
+    for _ in 0..room.len() {
+        let got = input.read(&mut room[n..])?;
+        if got == 0 {
+            break;
+        }
+        n += got;
+    }
+    Ok(n)
+}
+
 // All the input is read at once.
 fn main(rt: HostRuntime) -> io::Result<()> {
-    let mut input = Vec::new(rt.alloc());
-    rt.stdin().take(LONGEST).read_to_end(&mut input)?;
+    let mut input = [0u8; LONGEST];
+    let n = read_full(&mut rt.stdin(), &mut input)?;
     let mut m = [0u8; MEDIA];
     let mut tables = [0u64; TABLES];
-    answer_all(&mut rt.stdout(), &input, &mut m, &mut tables)
+    answer_all(&mut rt.stdout(), &input[0..n], &mut m, &mut tables)
 }

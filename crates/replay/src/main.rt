@@ -8,7 +8,7 @@ ghost use Rattle.std.specs.Prelude.{◌+◌, ◌≤◌, length, IfOk};
 
 use replay_state::cells::{ALL, Cells};
 use std::io;
-use std::io::{BufReader, BufWriter, Read, Write};
+use std::io::{Read, Write};
 
 mod answer;
 mod backups;
@@ -102,15 +102,13 @@ fn run(
 }
 
 fn main(rt: HostRuntime) -> io::Result<()> {
-    let mut input = BufReader::new(rt.alloc(), rt.stdin())?;
-    let mut to = BufWriter::new(rt.alloc(), rt.stdout())?;
     let mut m = [0u8; MEDIA];
     let mut tables = [0u64; TABLES];
     let mut backup = [0u8; BACKUP];
     let mut w = [0u64; ALL];
     run(
-        &mut input,
-        &mut to,
+        &mut rt.stdin(),
+        &mut rt.stdout(),
         &mut m,
         &mut tables,
         &mut backup,

@@ -9,7 +9,7 @@ ghost use Rattle.crc32.specs.Tables.{tables_of};
 use crc32::Tables;
 use run_lines::print;
 use std::io;
-use std::io::{BufWriter, Read, Write};
+use std::io::{Read, Write};
 
 mod answer;
 mod conversions;
@@ -91,8 +91,7 @@ fn run(input: &mut impl Read, to: &mut impl Write, t: &Tables, held: &mut [u8]) 
 }
 
 fn main(rt: HostRuntime) -> io::Result<()> {
-    let mut to = BufWriter::new(rt.alloc(), rt.stdout())?;
     let t = crc32::tables();
     let mut held = [0u8; LIMIT];
-    run(&mut rt.stdin(), &mut to, &t, &mut held)
+    run(&mut rt.stdin(), &mut rt.stdout(), &t, &mut held)
 }

@@ -13,10 +13,12 @@ use Rattle.cluster.specs.Step.{step}
 use Rattle.checks.specs.Results.{no_files, no_stamp}
 use Rattle.lines.specs.Forms.{Meaning, bad, cluster, asked}
 use Rattle.shapes.specs.Shapes.{accepted}
+use Rattle.replies.specs.declared.Printed.{Printed}
 use Rattle.replies.specs.declared.Printed.TheVariants as printed
 use Rattle.replies.specs.Texts.{text_of, reply_text}
 use Rattle.answers.specs.declared.answer.Held.{Held}
 use Rattle.answers.specs.declared.answer.Next.{Next}
+use Rattle.answers.specs.declared.answer.Cluster.{Cluster}
 
 -- a line's text, and what the program then holds: shape and records, media and lock tables
 pub record After : Type 0 where
@@ -28,6 +30,10 @@ pub record After : Type 0 where
 -- the running answer, with the lent slices at its end
 abbrev pub after_of : Next → List ℕ → List ℕ → After
 after_of n m tables = record { text = text_of n.printed; held = n.held; media = m; tables = tables }
+
+-- what the running program prints for a line, and the cluster that it then has
+abbrev pub left_of : Printed → Cluster → After
+left_of p c = record { text = text_of p; held = c.held; media = c.media; tables = c.tables }
 
 -- before the first cluster line: of a shape that none has, so that a call is bad; its records are those of a fresh cluster
 unfoldable pub nothing : Held

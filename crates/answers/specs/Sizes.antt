@@ -1,9 +1,8 @@
 -- The sizes of what the script program holds.
 -- Assumes nothing.
-use Rattle.std.specs.Prelude.{◌≡◌, ℕ, ◌*◌}
+use Rattle.std.specs.Prelude.{ℕ, ◌*◌}
 use Rattle.storage.specs.Sizes.{medium_size}
 use Rattle.cluster.specs.State.{table_size}
-use Rattle.lines.specs.Forms.{line_limit}
 
 -- seven media of 100 places
 abbrev pub media_limit : ℕ
@@ -23,12 +22,3 @@ out_limit = 24 * piece_limit
 -- one byte more than a line may have
 abbrev pub line_room : ℕ
 line_room = 501
-
--- the lengths of what main lends: media, lock tables, a line, its data and its locks, the replies
-pub record Lent (m a l d k o : ℕ) : Type 0 where
-  pub media : m ≡ media_limit
-  pub tables : a ≡ tables_length
-  pub line : l ≡ line_room
-  pub content : d ≡ line_limit
-  pub locks : k ≡ line_limit
-  pub out : o ≡ out_limit

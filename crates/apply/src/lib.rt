@@ -12,6 +12,7 @@ use replica_calls::{calls, copy};
 use segment::header::Stamp;
 use storage::sizes::Place;
 
+// Hosts call by these parameters (README), so they stay apart.
 pub fn apply(
     shape: Shape,
     records: Records,

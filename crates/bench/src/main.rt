@@ -5,10 +5,10 @@
 
 ghost use Rattle.std.specs.Prelude.{◌≤◌, length, IfOk};
 
-use crate::stage::{MEDIA, TABLES};
+use crate::jobs::Job;
+use crate::stage::Stage;
 use std::io;
 use std::io::{Read, Write};
-use text::number::Number;
 use text::{line, number};
 
 mod conversions;
@@ -21,37 +21,11 @@ mod turns;
 // The most bytes of input that are read.
 const LONGEST: usize = 4096;
 
-// How many jobs there are.
-const JOBS: u64 = 10;
-
-// The number of the job of this name, from 0; JOBS where there is none.
-fn job(names: &[u8], name: &[u8]) -> u64 {
-    let mut rest = names;
-    let mut i = 0;
-    while i < JOBS {
-        if check::same(line::first(rest), name) {
-            return i;
-        }
-        let next = line::behind(rest);
-        rest = next;
-        i += 1;
-    }
-    i
-}
-
 // What a line asks for, if it has a job's form.
-fn answer(text: &[u8], m: &mut [u8], tables: &mut [u64]) -> Option<u64> {
-    let Number::Is(count) = number::decimal(line::field(text, 1)) else {
-        return None;
-    };
-    let j = job(
-        b"crc\tmarks\tproducts\tsend\tprepare\topen\texport\timport\tconvert\tissue",
-        line::field(text, 0),
-    );
-    if j == JOBS {
-        return None;
-    }
-    Some(jobs::total(j, m, tables, count))
+fn answer(text: &[u8], stage: &mut Stage) -> Option<u64> {
+    let count = number::decimal(line::field(text, 1))?;
+    let job = Job::named(line::first(text))?;
+    Some(jobs::total(job, stage, count))
 }
 
 // The line that says an answer, or that there is none.
@@ -63,20 +37,10 @@ fn say(to: &mut impl Write, answer: Option<u64>) -> io::Result<()> {
 }
 
 // The lines, each ended by a newline.
-fn answer_all(
-    to: &mut impl Write,
-    input: &[u8],
-    m: &mut [u8],
-    tables: &mut [u64],
-) -> io::Result<()> {
-    let mut i = 0;
-    while i < input.len() {
-        let j = byte_search::find(input, i, input.len(), b'\n');
-        say(to, answer(&input[i..j], m, tables))?;
-        if j == input.len() {
-            return Ok(());
-        }
-        i = j + 1;
+fn answer_all(to: &mut impl Write, input: &[u8], stage: &mut Stage) -> io::Result<()> {
+    for text in input.split_inclusive(|b| *b == b'\n') {
+        let text = text.strip_suffix(b"\n").unwrap_or(text);
+        say(to, answer(text, stage))?;
     }
     Ok(())
 }
@@ -100,7 +64,5 @@ fn read_full(input: &mut impl Read, room: &mut [u8]) -> io::Result<usize>
 fn main(rt: HostRuntime) -> io::Result<()> {
     let mut input = [0u8; LONGEST];
     let n = read_full(&mut rt.stdin(), &mut input)?;
-    let mut m = [0u8; MEDIA];
-    let mut tables = [0u64; TABLES];
-    answer_all(&mut rt.stdout(), &input[0..n], &mut m, &mut tables)
+    answer_all(&mut rt.stdout(), &input[..n], &mut Stage::new())
 }

@@ -1,7 +1,6 @@
 // The scan for a mark with a product in its loop: where a group begins is found from the number of places before it, whereas `scan::mark`
 // adds a group's size to where the last one began. It stands here alone, to be timed beside that one.
 ghost use Rattle.std.specs.Prelude.{◌≡◌, length};
-ghost use Rattle.crc32.specs.Tables.{tables_of};
 ghost use Rattle.storage.specs.Sizes.{medium_size};
 ghost use Rattle.storage.specs.Log.{mark_of};
 
@@ -11,8 +10,8 @@ use scan::groups;
 use scan::groups::GROUP;
 use storage::sizes::{PLACE, SLOTS};
 
+// The loop stays a while: it steps by groups, and the product by which each is reached is what is timed (README, "Speed").
 pub fn mark(t: &Tables, m: &[u8], places: usize) -> usize
-    requires t_value { t.now ≡ tables_of }
     requires m_len { length m.now ≡ medium_size places }
     ensures { result ≡ mark_of places m.now }
 {

@@ -9,12 +9,8 @@ pub fn find(s: &[u8], from: usize, to: usize, b: u8) -> usize
     requires { (from ≤ to) × (to ≤ length s.now) }
     ensures { (result ≡ from + index_of b (slice from to s.now)) × ((from ≤ result) × (result ≤ to)) }
 {
-    let mut i = from;
-    while i < to {
-        if s[i] == b {
-            return i;
-        }
-        i += 1;
-    }
-    to
+    s[from..to]
+        .iter()
+        .position(|x| *x == b)
+        .map_or(to, |i| from + i)
 }

@@ -1,37 +1,49 @@
--- Tests made one behind another are the list of their rows.
+-- Tests made one behind another by `?` are the list of their rows.
 -- Assumes nothing.
-use mathlib.Core.Path.{◌≡◌, refl, sym, ap, ◌∙◌}
-use mathlib.Core.List.{List, [], ◌∷◌, ◌++◌}
-use Rattle.cluster.specs.Refusals.{Row, Verdict, pass, declined, first_of, and_then}
-use Rattle.cluster.proofs.Rows.{first_of_append, and_then_append}
+use mathlib.Core.Path.{◌≡◌, refl, sym}
+use mathlib.Core.Bool.{false}
+use mathlib.Core.List.{List, ◌++◌}
+use Prim.Native.Nat.{ℕ, ◌<◌}
+use native.Mathlib.Omega.{arith}
+use lib.ListN.{length, replicate, length-replicate}
+use borrow.Author.Tests.{ltb-false}
+use Rattle.std.specs.Prelude.{Result}
+use Rattle.std.specs.Result.{IsErr, IsErrAnd}
+use Rattle.std.proofs.lemmas.Result.{err_from_is_err_and}
+use Rattle.cluster.specs.declared.Shape.{Shape}
+use Rattle.cluster.specs.declared.Records.{Records}
+use Rattle.cluster.specs.declared.Refusal.{Refusal}
+use Rattle.cluster.specs.Replies.{number_of, values_of}
+use Rattle.cluster.specs.Refusals.{Row, Verdict, pass, declined, server_rows, first_of, and_then}
+use Rattle.cluster.proofs.Rows.{first_of_append, condition_of, passed}
+use Rattle.checks.specs.Results.{state_of}
+use Rattle.checks.specs.Verdicts.{verdict_of}
 
--- one test behind another, as the code makes them
-abbrev pub chain : Verdict → List Row → Verdict
-chain v [] = v
-chain v (w ∷ ws) = chain (and_then v (w ∷ [])) ws
-
-none_more : (v : Verdict) → and_then v [] ≡ v
-unfolding and_then first_of
-none_more pass = refl
-none_more (declined n values) = refl
-
-chain_is : (v : Verdict) (ws : List Row) → chain v ws ≡ and_then v ws
-chain_is v [] = sym (none_more v)
-chain_is v (w ∷ ws) = chain_is (and_then v (w ∷ [])) ws ∙ and_then_append v (w ∷ []) ws
-
-pub chained : (ws : List Row) → chain pass ws ≡ first_of ws
+-- a first part of the list that passed leaves the rest to decide
+pub behind : {v : Verdict} (ws us : List Row) → pass ≡ first_of ws → v ≡ first_of us → v ≡ first_of (ws ++ us)
 unfolding and_then
-chained ws = chain_is pass ws
+behind ws us e q = rw (first_of_append ws us, ← e) q
 
--- behind a list that was checked before
-pub behind : {v k : Verdict} (ws us : List Row) → k ≡ first_of ws → v ≡ chain k us → v ≡ first_of (ws ++ us)
-behind {v} {k} ws us e q = q ∙ chain_is k us ∙ ap (λ (n : Verdict). and_then n us) e ∙ sym (first_of_append ws us)
-
--- a last row that need only be right if the list before it passes
-pub if_passed : {v k : Verdict} (ws : List Row) (a b : Row) → k ≡ first_of ws → (first_of ws ≡ pass → a ≡ b) → v ≡ and_then k (a ∷ []) → v ≡ first_of (ws ++ (b ∷ []))
+-- a first part that declined decides: `?` hands out its refusal
+pub stopped :
+    {T : Type 0} (r : Result T Refusal) (why : Refusal) (ws us : List Row)
+    → IsErr r × IsErrAnd r (λ y. y ≡ why)
+    → declined (number_of why) (values_of why) ≡ first_of ws
+    → verdict_of r ≡ first_of (ws ++ us)
 unfolding and_then
-if_passed {v} {k} ws a b e same q = q ∙ ap (λ (n : Verdict). and_then n (a ∷ [])) e ∙ go (first_of ws) same ∙ sym (first_of_append ws (b ∷ []))
-  where
-    go : (n : Verdict) → (n ≡ pass → a ≡ b) → and_then n (a ∷ []) ≡ and_then n (b ∷ [])
-    go pass s = ap (λ (w : Row). first_of (w ∷ [])) (s refl)
-    go (declined n values) s = refl
+stopped r why ws us h e = let p = err_from_is_err_and r h.1 in rw (first_of_append ws us, ← e, p.1, p.2) refl
+
+-- a condition of a first part that passed is looked up by its number
+pub no : (ws : List Row) → pass ≡ first_of ws → (n : ℕ) → condition_of n ws ≡ false
+no ws e n = passed ws (sym e) n
+
+-- 1 to 3 passed, whatever lies in the lent slices: there is such a server
+pub is_server :
+    (h : Shape) (r : Records) (media tables s : ℕ)
+    → ((m t : List ℕ) → length m ≡ media → length t ≡ tables → pass ≡ first_of (server_rows h (state_of r m t) s))
+    → s < 4
+is_server h r media tables s passes =
+    let m : List ℕ = replicate media 0 in
+    let t : List ℕ = replicate tables 0 in
+    let passed_here = passes m t (length-replicate media 0) (length-replicate tables 0) in
+    omega (arith, ltb-false 3 s (no (server_rows h (state_of r m t) s) passed_here 3))

@@ -9,9 +9,9 @@ use mathlib.Core.Bool.{true, false, true≢false, false≢true}
 use mathlib.Core.Logic.{◌↔◌}
 use mathlib.Core.List.{List, [], ◌∷◌}
 use Prim.Native.Nat.{ℕ}
-use Rattle.locks.specs.declared.LockTest.{LockTest}
-use Rattle.locks.specs.declared.LockTest.TheVariants.{Free, Held}
-use Rattle.locks.specs.Locks.{first_held}
+use Rattle.std.specs.Prelude.{Option, Some, None}
+use Rattle.locks.specs.declared.HeldLock.{HeldLock}
+use Rattle.locks.specs.Locks.{held_lock, first_held}
 use Rattle.locks.proofs.Conflicts.{NoneAbove, FirstAbove, granted_exactly, held_exactly}
 use Rattle.segment.specs.declared.header.Stamp.{Stamp}
 use Rattle.segment.specs.Pair.{Files}
@@ -54,13 +54,13 @@ Aware =
 -- ---- their proofs
 
 -- what a test of the locks says, by its row
-row_held : (t : LockTest) (values : List ℕ) → is_held t ≡ true → values ≡ held_by t → (k : ℕ) × (e : ℕ) × (values ≡ k ∷ e ∷ []) × (t ≡ Held k e)
-row_held Free values b v = absurd (false≢true b)
-row_held (Held k e) values b v = (k, e, v, refl)
+row_held : (t : Option HeldLock) (values : List ℕ) → is_held t ≡ true → values ≡ held_by t → (k : ℕ) × (e : ℕ) × (values ≡ k ∷ e ∷ []) × (t ≡ Some (held_lock k e))
+row_held None values b v = absurd (false≢true b)
+row_held (Some l) values b v = (l.lock, l.estimate, v, refl)
 
-row_free : (t : LockTest) → is_held t ≡ false → t ≡ Free
-row_free Free b = refl
-row_free (Held k e) b = absurd (true≢false b)
+row_free : (t : Option HeldLock) → is_held t ≡ false → t ≡ None
+row_free None b = refl
+row_free (Some l) b = absurd (true≢false b)
 
 module _ (h : Shape) (x : State) (s : ℕ) (q : Request) (content locks given : List ℕ) (stamp : Stamp) (files : Files) (backup : List ℕ) where
   abbrev p : Input
@@ -73,7 +73,7 @@ module _ (h : Shape) (x : State) (s : ℕ) (q : Request) (content locks given : 
   abbrev client : ℕ
   client = q.mark
 
-  abbrev found : LockTest
+  abbrev found : Option HeldLock
   found = first_held table locks client
 
   abbrev e : Result

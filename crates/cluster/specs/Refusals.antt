@@ -1,7 +1,7 @@
 -- Why a call is declined: document 01's list, and what document 02 adds to it. First the conditions, each under its sentence and a function of what it
 -- looks at; then each call's own list of them.
 -- Assumes nothing.
-use Rattle.std.specs.Prelude.{ℕ, ◌+◌, ◌*◌, ◌^◌, min, List, [], ◌∷◌, ◌++◌, Bool, true, false, not, cond, ◌&&◌, ◌||◌, length, leb, ltb, eqb}
+use Rattle.std.specs.Prelude.{ℕ, ◌+◌, ◌*◌, ◌^◌, min, List, [], ◌∷◌, ◌++◌, Bool, true, false, not, cond, ◌&&◌, ◌||◌, length, leb, ltb, eqb, Option, Some, None}
 use Rattle.fate.specs.declared.Fate.{Fate}
 use Rattle.fate.specs.declared.Fate.TheVariants.{Answered, Lost, AnswerLost, Cut}
 use Rattle.fate.specs.declared.Left.{Left}
@@ -17,8 +17,7 @@ use Rattle.segment.specs.declared.header.Stamp.{Stamp}
 use Rattle.segment.specs.Pair.{Files, data_size, index_size}
 use Rattle.base.specs.Below.{all, count}
 use Rattle.quorum.specs.Vote.{quorum, majority_mark, decided}
-use Rattle.locks.specs.declared.LockTest.{LockTest}
-use Rattle.locks.specs.declared.LockTest.TheVariants.{Free, Held}
+use Rattle.locks.specs.declared.HeldLock.{HeldLock}
 use Rattle.locks.specs.Locks.{first_held}
 use Rattle.limits.specs.declared.Limits.{Limits}
 use Rattle.limits.specs.Limits.{limits_of, too_much}
@@ -209,15 +208,15 @@ checkpoint_due K v = leb (v.start + K) v.issued
 
 -- 15, document 02, No. 2: "Refusal 15 is given only if an estimate is above the client's mark", in place of document 01's "A lock's estimate is not
 -- below the client's mark (004: the client's mark must be higher)"; "the first such lock and its estimate are given"
-abbrev pub is_held : LockTest → Bool
-is_held Free = false
-is_held (Held k e) = true
+abbrev pub is_held : Option HeldLock → Bool
+is_held None = false
+is_held (Some l) = true
 
-abbrev pub held_by : LockTest → List ℕ
-held_by Free = []
-held_by (Held k e) = k ∷ e ∷ []
+abbrev pub held_by : Option HeldLock → List ℕ
+held_by None = []
+held_by (Some l) = l.lock ∷ l.estimate ∷ []
 
-abbrev pub lock_row : LockTest → Row
+abbrev pub lock_row : Option HeldLock → Row
 lock_row t = record { number = 15; holds = is_held t; values = held_by t }
 
 -- 16 "There is nothing to do: send and i's mark isn't issued − 1; copy and b's mark isn't below a's; trim and i isn't above the mark; read

@@ -32,7 +32,7 @@ pub struct Shape {
 
 // The closing part of an entry: none yet, the mark at which a later session closed the replica's log, or that its medium was put back from a backup and no
 // session has counted it since.
-#[derive(Clone, Copy)]
+#[derive(Clone, Copy, PartialEq, Eq)]
 pub enum Closing {
     Unresolved,
     Mark(u64),
@@ -53,7 +53,7 @@ pub struct Register {
     pub entries: [Entry; 7],
 }
 
-#[derive(Clone, Copy)]
+#[derive(Clone, Copy, PartialEq, Eq)]
 pub enum Phase {
     Idle,
     Opening,
@@ -61,6 +61,7 @@ pub enum Phase {
 }
 
 // The phases that a call is for.
+// A set of phases, not a flag with a value beside it.
 #[derive(Clone, Copy)]
 pub struct Phases {
     pub idle: bool,
@@ -69,7 +70,8 @@ pub struct Phases {
 }
 
 // A server's record. `entries` are those that take handed over. `known`: the replicas known (opening), the members (open);
-// `dropped`: members that were silent. `marks` are the recorded marks; `held`, the last eight records issued.
+// `dropped`: members that were silent. `marks` are the recorded marks; `held`, the last eight records issued. An array a field, and no array of replicas:
+// hosts fill the fields in, and the definitions (specs/State `member_at`, `active_at`, `mark_at`) and guarantee's theorems name them.
 #[derive(Clone, Copy)]
 pub struct Server {
     pub phase: Phase,
@@ -155,6 +157,7 @@ pub enum Refusal {
 }
 
 // The reply: done with no value, done with one, no answer came, or declined.
+// Hosts match on it, and so does specs/Replies `reply_of`: no Option of a Result.
 #[derive(Clone, Copy)]
 pub enum Answer {
     Done,

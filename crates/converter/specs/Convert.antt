@@ -1,11 +1,10 @@
 -- The converter. Document 02, No. 7: "A converter turns an old medium into a new one in a second slice; every slot and every record of the log is kept,
 -- and all other places come out wiped." First when it declines, then what it writes.
 -- Assumes nothing.
-use Rattle.std.specs.Prelude.{List, [], ◌∷◌, ◌++◌, Bool, cond, ◌&&◌, ◌||◌, ℕ, ◌-◌, ◌*◌, ◌/◌, eqb, leb, length, take, replicate}
+use Rattle.std.specs.Prelude.{List, [], ◌∷◌, ◌++◌, Result, Ok, Err, Bool, cond, ◌&&◌, ◌||◌, ℕ, ◌-◌, ◌*◌, ◌/◌, eqb, leb, length, take, replicate}
 use Rattle.storage.specs.Sizes.{slots_size, place_size, places_limit, medium_size}
 use Rattle.storage.specs.Slots.{valid_slot, first_of, second_of}
-use Rattle.converter.specs.declared.Converted.{Converted}
-use Rattle.converter.specs.declared.Converted.TheVariants.{Done, NotConvertible}
+use Rattle.converter.specs.declared.NotConvertible.{NotConvertible}
 use Rattle.old_places.specs.Old.{old_place_size, old_medium_size, old_log, old_mark, renewed}
 
 -- ================ the replies
@@ -15,9 +14,9 @@ pub data Reply : Type 0 where
   no : ℕ → Reply
 
 -- "Number 27 is given by the converter"
-abbrev pub reply_of : Converted → Reply
-reply_of Done = ok
-reply_of NotConvertible = no 27
+abbrev pub reply_of : Result (Unit {0}) NotConvertible → Reply
+reply_of (Ok done) = ok
+reply_of (Err why) = no 27
 
 -- ================ when it declines
 

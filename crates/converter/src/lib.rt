@@ -3,12 +3,17 @@
 
 pub mod convert;
 
-// The number by which the converter declines.
-pub const NOT_CONVERTIBLE: u64 = 27;
+ghost use Rattle.std.specs.Prelude.{◌≡◌};
 
-// Done, or the lengths or the slots are not those of a medium that can be converted.
+// The lengths or the slots are not those of a medium that can be converted.
 #[derive(Clone, Copy)]
-pub enum Converted {
-    Done,
-    NotConvertible,
+pub struct NotConvertible;
+
+// The number by which the converter declines.
+impl From<NotConvertible> for u64 {
+    ghost from_gives = { λ why number. number ≡ 27 };
+
+    fn from(why: NotConvertible) -> u64 {
+        27
+    }
 }

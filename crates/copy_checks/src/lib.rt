@@ -2,16 +2,14 @@
 #![tactic(auto)]
 
 ghost use Rattle.std.specs.Prelude.{◌≡◌, ◌<◌, length};
-ghost use Rattle.crc32.specs.Tables.{tables_of};
-ghost use Rattle.cluster.specs.Refusals.{not_two, is_opening, refuses_at, restored_source, unfit_source, copy_rows, first_of};
+ghost use Rattle.cluster.specs.Refusals.{not_two, refuses_at, restored_source, unfit_source, copy_rows, first_of};
 ghost use Rattle.checks.specs.Verdicts.{verdict_of};
 ghost use Rattle.delivery.specs.Messages.{Named};
 
-use checks::{Check, also};
+use checks::refuse_if;
 use cluster::{Phase, Refusal, Server, Shape};
-use conditions::{both, either};
 use crc32::Tables;
-use delivery::span_of;
+use delivery::medium_of;
 use fate::Fate;
 use message_checks::{is_active, unfit_fate};
 use storage::sizes::Place;
@@ -21,17 +19,7 @@ use voters::restored_at;
 pub fn not_two(r: u64, from: u64, to: u64) -> bool
     ensures { result ≡ not_two r from to }
 {
-    either(either(r <= from, r <= to), from == to)
-}
-
-fn is_opening(p: Phase) -> bool
-    ensures { result ≡ is_opening p }
-{
-    match p {
-        Phase::Idle => false,
-        Phase::Opening => true,
-        Phase::Open => false,
-    }
+    r <= from || r <= to || from == to
 }
 
 // A restored replica is no source until a session has opened with it: then it is ordinary, though the entry handed over at take still says restored.
@@ -39,36 +27,28 @@ fn source_restored(v: Server, from: usize) -> bool
     requires { from < 7 }
     ensures { result ≡ restored_source v from }
 {
-    let p = v.phase;
-    both(is_opening(p), restored_at(v, from))
+    matches!(v.phase, Phase::Opening) && restored_at(v, from)
 }
 
 // The replica that is read would decline.
 fn source_declines(t: &Tables, shape: Shape, v: Server, media: &[u8], from: usize) -> bool
-    requires t_value { t.now ≡ tables_of }
     requires named { Named shape v from (length media.now) }
     ensures { result ≡ refuses_at shape.places v media.now from }
 {
-    let recorded = v.marks[from];
-    let span = span_of(shape.places, from);
-    let at = span.at;
-    let end = span.end;
-    replica::unfit(t, &media[at..end], shape.places, v.session, recorded)
+    let medium = medium_of(media, shape.places, from);
+    replica::unfit(t, medium, shape.places, v.session, v.marks[from])
 }
 
 // 17: the replica that is read is restored, or would decline.
 fn source_unfit(t: &Tables, shape: Shape, v: Server, media: &[u8], from: usize) -> bool
-    requires t_value { t.now ≡ tables_of }
     requires named { Named shape v from (length media.now) }
     ensures { result ≡ unfit_source shape.places v media.now from }
 {
-    either(
-        source_restored(v, from),
-        source_declines(t, shape, v, media, from),
-    )
+    source_restored(v, from) || source_declines(t, shape, v, media, from)
 }
 
 // 6, 7, 16 and 17.
+// t, shape, v, media, from, to, f and given stay apart: the rows of cluster specs/Refusals take all but t one by one, and copy hands them on so.
 pub fn check_copy(
     t: &Tables,
     shape: Shape,
@@ -78,24 +58,13 @@ pub fn check_copy(
     to: usize,
     f: Fate,
     given: &Place,
-) -> Check
-    requires t_value { t.now ≡ tables_of }
+) -> Result<(), Refusal>
     requires named { (Named shape v from (length media.now)) × (to < 7) }
     ensures { verdict_of result ≡ first_of (copy_rows shape v media.now from to f given.now) }
 {
-    let source = v.marks[from];
-    let mark = v.marks[to];
-    let k = also(
-        Check::Pass,
-        unfit_fate(t, f, given, shape.places),
-        Refusal::UnfitFate,
-    );
-    let out = either(!is_active(v, from), !is_active(v, to));
-    let k = also(k, out, Refusal::ReplicaOut);
-    let k = also(k, !(mark < source), Refusal::NothingToDo);
-    also(
-        k,
-        source_unfit(t, shape, v, media, from),
-        Refusal::UnfitSource,
-    )
+    refuse_if(unfit_fate(t, f, given, shape.places), Refusal::UnfitFate)?;
+    let out = !is_active(v, from) || !is_active(v, to);
+    refuse_if(out, Refusal::ReplicaOut)?;
+    refuse_if(v.marks[from] <= v.marks[to], Refusal::NothingToDo)?;
+    refuse_if(source_unfit(t, shape, v, media, from), Refusal::UnfitSource)
 }

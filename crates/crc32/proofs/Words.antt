@@ -6,10 +6,12 @@ use Prim.Native.Nat.{ℕ, zero, suc, ◌+◌, ◌-◌, ◌*◌, ◌/◌, ◌%◌
 use native.Mathlib.Nat.{not-suc-le-zero, pow-suc, mod-lt, div-lt_iff_lt-mul, zero-lt-suc, lt_of_lt_of_le, pow-le-pow_right, one-le-pow}
 use native.Mathlib.Numerals.{sub-one}
 use native.Mathlib.Omega.{arith}
-use lib.Arith.{digits_lt, lt-one}
+use lib.Arith.{lt-one}
 use lib.Dec.{lit<, lit≤}
-use lib.ListN.{length, get_or, drop, length-drop, drop_of_length-le, take-append-drop}
-use lib.Seq.{drop-cons, drop-drop, get_or-drop, get_or-take}
+use lib.ListN.{length, get_or, take, drop, length-drop, drop_of_length-le, take-append-drop}
+use lib.Seq.{take_all, drop-drop}
+use Rattle.std.specs.Int.{from_le_bytes}
+use mir.Syntax.{w32}
 use lib.Bits.{bit_xor, xor_comm, xor_zero_r, xor_shifted}
 use Rattle.octets.specs.Octets.{part, Bytes}
 use Rattle.octets.proofs.Laws.{length_part, part_part}
@@ -64,6 +66,10 @@ pub none_in : (r i : ℕ) (s : List ℕ) → length s ≤ i → crc_from r (drop
 unfolding crc_from
 none_in r i s h = ap (crc_from r) (drop_of_length-le s h)
 
+-- what `&s[k..]` refers to
+pub behind : (k : ℕ) (s : List ℕ) → take (length s - k) (drop k s) ≡ drop k s
+behind k s = take_all (length s - k) (drop k s) (omega (arith, length-drop k s))
+
 -- four bytes at once
 pub four_in : (r o : ℕ) (s : List ℕ) → Bytes s → o + 4 ≤ length s → crc_from r (part o 4 s) ≡ bit_steps 32 (bit_xor r (le_of (part o 4 s)))
 four_in r o s p h =
@@ -92,35 +98,15 @@ eight_in r o s p h =
     ∙ ap (λ (x : ℕ). bit_steps 32 (bit_xor x (le_of (part (o + 4) 4 s)))) (four_in r o s p (omega arith))
     ∙ steps_later 32 32 (bit_xor r (le_of (part o 4 s))) (le_of (part (o + 4) 4 s))
 
--- ---- the number, read from its last byte down
+-- ---- the number, of four bytes one by one
 
-pub le_end : (s : List ℕ) (j : ℕ) → length s ≤ j → le_of (drop j s) ≡ 0
+pub le_four : (o : ℕ) (s : List ℕ) → o + 4 ≤ length s
+    → le_of (part o 4 s) ≡ from_le_bytes w32 (get_or s o 0 ∷ get_or s (o + 1) 0 ∷ get_or s (o + 2) 0 ∷ get_or s (o + 3) 0 ∷ [])
 unfolding le_of
-le_end s j h = ap le_of (drop_of_length-le s h)
-
--- the bytes of a part, from the j-th one on, with the one before them
-pub le_next : (o n j : ℕ) (s : List ℕ) → 0 < j → j ≤ n → o + n ≤ length s
-    → le_of (drop (j - 1) (part o n s)) ≡ le_of (drop j (part o n s)) * 256 + get_or s (o + (j - 1)) 0
-unfolding le_of
-le_next o n zero s p h k = absurd (not-suc-le-zero p)
-le_next o n (suc j) s p h k =
-    rw (sub-one (suc j))
-    (ap le_of (drop-cons (part o n s) j 0 (omega (arith, length_part o n s k)))
-    ∙ ap (λ (b : ℕ). le_of (drop (suc j) (part o n s)) * 256 + b) (get_or-take n (drop o s) j 0 h ∙ get_or-drop o s j 0))
-
-le_lt : (s : List ℕ) → Bytes s → le_of s < 256 ^ length s
-unfolding le_of
-le_lt [] p = lit< tt
-le_lt (b ∷ s) p = rw pow-suc (digits_lt (le_lt s p.1) p.0)
-
--- with that byte too it fits
-pub le_room : (o n j : ℕ) (s : List ℕ) → Bytes s → 0 < j → j ≤ n → o + n ≤ length s
-    → le_of (drop j (part o n s)) * 256 + get_or s (o + (j - 1)) 0 < 256 ^ n
-le_room o n j s p g h k =
-    let d = drop (j - 1) (part o n s) in
-    rw (← le_next o n j s g h k)
-    (lt_of_lt_of_le (le_lt d (bytes_drop (j - 1) (part o n s) (bytes_take n (drop o s) (bytes_drop o s p))))
-    (pow-le-pow_right {n = 256} (lit< tt) (omega (arith, length-drop (j - 1) (part o n s), length_part o n s k))))
+le_four o s h =
+    let two : o + 1 + 1 ≡ o + 2 = omega arith in
+    let three : o + 2 + 1 ≡ o + 3 = omega arith in
+    rw (drop_next s o (omega arith), drop_next s (o + 1) (omega arith), two, drop_next s (o + 2) (omega arith), three, drop_next s (o + 3) (omega arith)) (omega arith)
 
 -- ---- out: the xor of a look-up for each of the k bytes of a number
 

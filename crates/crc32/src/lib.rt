@@ -1,7 +1,7 @@
 // CRC-32 of IEEE 802.3, reflected, eight bytes a step. The loops over four bytes have a fixed count, so the compiler unrolls them.
 #![tactic(auto)]
 
-ghost use Rattle.std.specs.Prelude.{◌≡◌, ◌+◌, ◌*◌, ◌≤◌, length, take, drop};
+ghost use Rattle.std.specs.Prelude.{◌≡◌, ◌+◌, ◌*◌, ◌≤◌, ◌<◌, length, take, drop};
 ghost use Rattle.std.specs.Int.Bits.{bit_xor};
 ghost use Rattle.octets.specs.Octets.{part, write_at, be_bytes};
 ghost use Rattle.crc32.specs.Crc32.{bit_steps, crc_from, crc_of, checked};
@@ -9,14 +9,28 @@ ghost use Rattle.crc32.specs.Tables.{tables_of, le_of};
 
 mod entries;
 
-// Eight tables in a row. They are made once, by `tables`, and lent on: each call of a function that names a constant
-// copies it to the stack.
-pub type Tables = [u32; 2048];
+// The eight tables in a row; whoever holds them holds the right ones. They are made once, by `new`, and lent on: each call of a function that names a
+// constant copies it to the stack.
+#[derive(Clone, Copy)]
+pub struct Tables {
+    entries: [u32; 2048],
+    ghost are_steps: { entries ≡ tables_of },
+}
 
-pub fn tables() -> Tables
-    ensures { result ≡ tables_of }
-{
-    entries::ENTRIES
+impl Tables {
+    pub fn new() -> Tables {
+        Tables {
+            entries: entries::ENTRIES,
+        }
+    }
+
+    // Entry b of table k: what 8 * (k + 1) bit steps make of the byte b.
+    pub fn entry(&self, k: usize, b: usize) -> u32
+        requires { (k < 8) × (b < 256) }
+        ensures { result ≡ bit_steps (8 * (k + 1)) b }
+    {
+        self.entries[256 * k + b]
+    }
 }
 
 // The number that the four bytes from an offset on stand for, lowest first.
@@ -24,36 +38,25 @@ fn load(s: &[u8], at: usize) -> u32
     requires { at + 4 ≤ length s.now }
     ensures { result ≡ le_of (part at 4 s.now) }
 {
-    let mut v: u32 = 0;
-    let mut j: usize = 4;
-    while 0 < j {
-        j -= 1;
-        let b = s[at + j] as u32;
-        v = v * 256 + b;
-    }
-    v
+    u32::from_le_bytes([s[at], s[at + 1], s[at + 2], s[at + 3]])
 }
 
 // What the bit steps of `width` bytes make of four, beside what is looked up already: a look-up for each byte of x.
 fn look_up(t: &Tables, x: u32, width: usize, before: u32) -> u32
-    requires t_value { t.now ≡ tables_of }
     requires le_width { (4 ≤ width) × (width ≤ 8) }
     ensures { result ≡ bit_xor before (bit_steps (8 * width) x) }
 {
     let mut r = before;
     let mut y = x;
-    let mut k = width;
-    while width - 4 < k {
-        k -= 1;
-        r = r ^ t[256 * k + (y % 256) as usize];
-        y = y / 256;
+    for k in (width - 4..width).rev() {
+        r ^= t.entries[256 * k + (y % 256) as usize];
+        y /= 256;
     }
     r
 }
 
 // The register after the four bytes from an offset on.
 pub fn four(t: &Tables, s: &[u8], at: usize, before: u32) -> u32
-    requires t_value { t.now ≡ tables_of }
     requires at_in_bounds { at + 4 ≤ length s.now }
     ensures { result ≡ crc_from before (part at 4 s.now) }
 {
@@ -62,7 +65,6 @@ pub fn four(t: &Tables, s: &[u8], at: usize, before: u32) -> u32
 
 // The register after eight bytes. The upper four need not wait for the register, so they are looked up first.
 pub fn eight(t: &Tables, s: &[u8], at: usize, before: u32) -> u32
-    requires t_value { t.now ≡ tables_of }
     requires at_in_bounds { at + 8 ≤ length s.now }
     ensures { result ≡ crc_from before (part at 8 s.now) }
 {
@@ -70,63 +72,53 @@ pub fn eight(t: &Tables, s: &[u8], at: usize, before: u32) -> u32
     look_up(t, before ^ load(s, at), 8, upper)
 }
 
-// The register after the bytes from an offset on, a byte a step.
-fn single(t: &Tables, s: &[u8], from: usize, before: u32) -> u32
-    requires { t.now ≡ tables_of }
-    ensures { result ≡ crc_from before (drop from s.now) }
+// The register after the bytes of a slice, a byte a step.
+fn single(t: &Tables, s: &[u8], before: u32) -> u32
+    ensures { result ≡ crc_from before s.now }
 {
     let mut r = before;
-    let mut i = from;
-    while i < s.len() {
-        let x = r ^ (s[i] as u32);
-        r = (x / 256) ^ t[(x % 256) as usize];
-        i += 1;
+    for b in s {
+        let x = r ^ u32::from(*b);
+        r = (x / 256) ^ t.entries[(x % 256) as usize];
     }
     r
 }
 
 // The same, with four bytes at once if there are so many.
-fn tail(t: &Tables, s: &[u8], from: usize, before: u32) -> u32
-    requires t_value { t.now ≡ tables_of }
-    requires from_in_bounds { from ≤ length s.now }
-    ensures { result ≡ crc_from before (drop from s.now) }
+fn tail(t: &Tables, s: &[u8], before: u32) -> u32
+    ensures { result ≡ crc_from before s.now }
 {
-    if s.len() - from < 4 {
-        return single(t, s, from, before);
+    if s.len() < 4 {
+        return single(t, s, before);
     }
-    single(t, s, from + 4, four(t, s, from, before))
+    single(t, &s[4..], four(t, s, 0, before))
 }
 
-// The CRC of a slice.
+// The CRC of a slice. Eight bytes go by their offset, as the lanes have it too (README, "Speed").
 pub fn crc(t: &Tables, s: &[u8]) -> u32
-    requires { t.now ≡ tables_of }
     ensures { result ≡ crc_of s.now }
 {
+    let words = s.len() / 8;
     let mut r: u32 = 0xffff_ffff;
-    let mut i = 0;
-    while 8 <= s.len() - i {
-        r = eight(t, s, i, r);
-        i += 8;
+    for i in 0..words {
+        r = eight(t, s, 8 * i, r);
     }
-    tail(t, s, i, r) ^ 0xffff_ffff
+    tail(t, &s[8 * words..], r) ^ 0xffff_ffff
 }
 
 // Whether the four bytes after the first k are the CRC of these.
 pub fn check(t: &Tables, s: &[u8], k: usize) -> bool
-    requires t_value { t.now ≡ tables_of }
     requires k_in_bounds { k + 4 ≤ length s.now }
     ensures { result ≡ checked k s.now }
 {
-    let e = k + 4;
-    crc(t, &s[..k]) as u64 == octets::get_be(&s[k..e])
+    u64::from(crc(t, &s[..k])) == octets::get_be(&s[k..k + 4])
 }
 
 // The CRC of the first k bytes goes behind them.
 pub fn seal(t: &Tables, s: &mut [u8], k: usize)
-    requires t_value { t.now ≡ tables_of }
     requires k_in_bounds { k + 4 ≤ length s.old }
     ensures { s.new ≡ write_at k (be_bytes 4 (crc_of (take k s.old))) s.old }
 {
     let c = crc(t, &s[..k]);
-    octets::put_be(s, k, 4, c as u64);
+    octets::put_be(s, k, 4, u64::from(c));
 }

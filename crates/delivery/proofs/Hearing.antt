@@ -62,6 +62,9 @@ module _ (N i at end : ℕ) (media : List ℕ) (w : Spans N i at end) where
   back_is fits m e =
       rw (w.starts, w.ends) (mid_write (i * medium_size N) (i * medium_size N + medium_size N) media m m (omega (arith, e ∙ lent_size fits)) refl)
 
+pub medium_length : (N i : ℕ) (media : List ℕ) → i * medium_size N + medium_size N ≤ length media → length (medium_at N i media) ≡ medium_size N
+medium_length N i media fits = length_part (i * medium_size N) (medium_size N) media fits
+
 -- a part written where it stands
 write_back : (o n : ℕ) (m : List ℕ) → o + n ≤ length m → write_at o (part o n m) m ≡ m
 unfolding write_at
@@ -123,18 +126,15 @@ module _ (h : Shape) (r : Records) (media tables : List ℕ) (s i : ℕ) (p : Op
 
 -- read writes nothing
 pub read_heard_lem :
-    (h : Shape) (r : Records) (media tables : List ℕ) (s i n : ℕ) (f : Fate) (given : List ℕ) (at end : ℕ)
-    → Spans h.places i at end
-    → (o : Heard)
-    → o ≡ read_heard h.places (server_at r s).session (mark_at (server_at r s) i) f (lent at end media)
+    (h : Shape) (r : Records) (media tables : List ℕ) (s i n : ℕ) (f : Fate) (given : List ℕ) (o : Heard)
+    → o ≡ read_heard h.places (server_at r s).session (mark_at (server_at r s) i) f (medium_at h.places i media)
     → result_of (read_by r s i (place_at n (medium_at h.places i media)) o) media tables
     ≡ once_sent h (state_of r media tables) (input_of (call.Read s i n f) given)
 unfolding unless first_of read_by read_effect read_heard
-read_heard_lem h r media tables s i n f given at end w o t =
+read_heard_lem h r media tables s i n f given o t =
     let v = server_at r s in
     let m = medium_at h.places i media in
-    let e : o ≡ read_heard h.places v.session (mark_at v i) f m = rw (lent_is h.places i at end media w) at t in
-    rw e (go (answered f) refl (no_slot m) (promise_differs v.session m) (mark_differs h.places (mark_at v i) m))
+    rw t (go (answered f) refl (no_slot m) (promise_differs v.session m) (mark_differs h.places (mark_at v i) m))
   where
     x : Result
     x = read_effect h.places (state_of r media tables) s i n f
@@ -150,18 +150,15 @@ read_heard_lem h r media tables s i n f given at end w o t =
 
 -- export too; its files are looked at behind the replica's rows
 pub export_heard :
-    (h : Shape) (r : Records) (media tables : List ℕ) (s i : ℕ) (f : Fate) (given : List ℕ) (z : Stamp) (data_file index_file : List ℕ) (at end : ℕ)
-    → Spans h.places i at end
-    → (o : Heard)
-    → o ≡ read_heard h.places (server_at r s).session (mark_at (server_at r s) i) f (lent at end media)
+    (h : Shape) (r : Records) (media tables : List ℕ) (s i : ℕ) (f : Fate) (given : List ℕ) (z : Stamp) (data_file index_file : List ℕ) (o : Heard)
+    → o ≡ read_heard h.places (server_at r s).session (mark_at (server_at r s) i) f (medium_at h.places i media)
     → result_of (export_by r s i (other_sizes (exported_places h.places (server_at r s) i media) (files_of data_file index_file)) o) media tables
     ≡ once_sent h (state_of r media tables) (export_of (call.Export s i f) given z data_file index_file)
 unfolding unless first_of read_by export_by export_effect read_heard
-export_heard h r media tables s i f given z data_file index_file at end w o t =
+export_heard h r media tables s i f given z data_file index_file o t =
     let v = server_at r s in
     let m = medium_at h.places i media in
-    let e : o ≡ read_heard h.places v.session (mark_at v i) f m = rw (lent_is h.places i at end media w) at t in
-    rw e (go (answered f) refl (no_slot m) (promise_differs v.session m) (mark_differs h.places (mark_at v i) m) (other_sizes (exported_places h.places v i media) (files_of data_file index_file)))
+    rw t (go (answered f) refl (no_slot m) (promise_differs v.session m) (mark_differs h.places (mark_at v i) m) (other_sizes (exported_places h.places v i media) (files_of data_file index_file)))
   where
     x : Result
     x = export_effect h.places (state_of r media tables) s i f

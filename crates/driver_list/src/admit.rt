@@ -8,26 +8,26 @@ ghost use Rattle.recovery.specs.Recovery.{repeats, names_none, recovery_rows};
 ghost use Rattle.recovery.specs.Asked.{asked_of};
 
 use crate::listed::{not_below, repeats};
-use checks::{Check, admit_replica, also};
-use cluster::{Phases, Records, Refusal, Shape};
-use conditions::either;
+use checks::{ONLY_IDLE, admit_replica, refuse_if};
+use cluster::{Records, Refusal, Shape};
 use storage::sizes::PLACE;
 
 // 1: there are other than 72 given bytes for each fate. They are divided, since the product could wrap.
 fn other_given(fates: usize, given: usize) -> bool
     ensures { result ≡ not (eqb given (fates * place_size)) }
 {
-    either(given / PLACE != fates, given % PLACE != 0)
+    given / PLACE != fates || given % PLACE != 0
 }
 
 // 29: the list repeats a replica or names none.
 fn unfit_list(listed: &[u64]) -> bool
     ensures { result ≡ (repeats listed.now || names_none listed.now) }
 {
-    either(repeats(listed), listed.len() == 0)
+    repeats(listed) || listed.is_empty()
 }
 
-// A number is looked for again only in a list that passed 4: there a repeated one is found among the first eight.
+// A number is looked for again only in a list that passed 4: there a repeated one is found among the first eight. What is asked for lies apart here: it goes into
+// one struct, recovery `Asked`, once these checks have found what that holds.
 pub fn admit_recovery(
     shape: Shape,
     records: Records,
@@ -37,28 +37,18 @@ pub fn admit_recovery(
     listed: &[u64],
     fates: &[u64],
     given: &[u8],
-) -> Check
+) -> Result<(), Refusal>
     ensures { verdict_of result ≡ first_of (recovery_rows shape (state_of records media.now tables.now) (asked_of server listed.now fates.now given.now)) }
 {
-    let phases = Phases {
-        idle: true,
-        opening: false,
-        open: false,
-    };
-    if other_given(fates.len(), given.len()) {
-        return Check::Refuse(Refusal::OutsideShape);
-    }
-    let k = admit_replica(
+    refuse_if(other_given(fates.len(), given.len()), Refusal::OutsideShape)?;
+    admit_replica(
         shape,
         records,
         media.len(),
         tables.len(),
         server,
         not_below(shape.replicas, listed),
-        phases,
-    );
-    if let Check::Refuse(_) = k {
-        return k;
-    }
-    also(k, unfit_list(listed), Refusal::UnfitList)
+        ONLY_IDLE,
+    )?;
+    refuse_if(unfit_list(listed), Refusal::UnfitList)
 }

@@ -1,11 +1,10 @@
 // What an opening server knows after the prepares: the highest mark of those that vote, and the first listed replica of them that has it.
-ghost use Rattle.std.specs.Prelude.{◌≡◌, ◌&&◌, ◌<◌, max, eqb};
+ghost use Rattle.std.specs.Prelude.{◌≡◌, ◌&&◌, ◌<◌, eqb};
 ghost use Rattle.cluster.specs.State.{mark_at, votes_at};
 ghost use Rattle.recovery.specs.Recovery.{voter_mark, highest_known, first_at};
 ghost use Rattle.recovery.specs.Asked.{Named};
 
 use cluster::Server;
-use conditions::but_not;
 use message_checks::is_active;
 use voters::restored_at;
 
@@ -14,7 +13,7 @@ fn is_voter(v: Server, i: usize) -> bool
     requires { i < 7 }
     ensures { result ≡ votes_at v i }
 {
-    but_not(is_active(v, i), restored_at(v, i))
+    is_active(v, i) && !restored_at(v, i)
 }
 
 // A replica's mark, 0 if it doesn't vote.
@@ -25,21 +24,13 @@ fn voter_mark(v: Server, i: usize) -> u64
     if is_voter(v, i) { v.marks[i] } else { 0 }
 }
 
-fn higher(a: u64, b: u64) -> u64
-    ensures { result ≡ max a b }
-{
-    if a < b { b } else { a }
-}
-
 pub fn highest_known(v: Server, listed: &[u64]) -> u64
     requires { Named listed.now }
     ensures { result ≡ highest_known v listed.now }
 {
     let mut best = 0;
-    let mut k = 0;
-    while k < listed.len() {
-        best = higher(best, voter_mark(v, listed[k] as usize));
-        k += 1;
+    for &i in listed {
+        best = voter_mark(v, i as usize).max(best);
     }
     best
 }
@@ -49,11 +40,7 @@ fn is_at(v: Server, i: usize, m: u64) -> bool
     requires { i < 7 }
     ensures { result ≡ (votes_at v i && eqb (mark_at v i) m) }
 {
-    if is_voter(v, i) {
-        v.marks[i] == m
-    } else {
-        false
-    }
+    is_voter(v, i) && v.marks[i] == m
 }
 
 // In the order of the list; 0 if there is none.
@@ -61,13 +48,10 @@ pub fn first_at(v: Server, m: u64, listed: &[u64]) -> u64
     requires { Named listed.now }
     ensures { result ≡ first_at v m listed.now }
 {
-    let mut k = 0;
-    while k < listed.len() {
-        let i = listed[k];
+    for &i in listed {
         if is_at(v, i as usize, m) {
             return i;
         }
-        k += 1;
     }
     0
 }

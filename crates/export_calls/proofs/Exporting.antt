@@ -4,7 +4,7 @@
 use mathlib.Core.Path.{◌≡◌, refl, ap, ap₂, ◌∙◌}
 use mathlib.Core.Bool.{Bool, true, false, not, cond}
 use mathlib.Core.List.{List, ◌++◌}
-use Prim.Native.Nat.{ℕ, ◌+◌}
+use Prim.Native.Nat.{ℕ}
 use native.Mathlib.Omega.{arith}
 use lib.ListN.{length}
 use lib.Dec.{eqb}
@@ -12,6 +12,7 @@ use borrow.Author.Tests.{eqb-true, not-false, eq-eqb, ne_eqb}
 use Rattle.base.proofs.Tests.{neither}
 use Rattle.fate.specs.declared.Fate.{Fate}
 use Rattle.storage.specs.Log.{places_from, mark_of}
+use Rattle.storage.specs.Operations.{medium_at}
 use Rattle.storage.proofs.Scan.{length_places}
 use Rattle.segment.specs.declared.header.Stamp.{Stamp}
 use Rattle.segment.specs.Pair.{Files, data_size, index_size}
@@ -33,7 +34,6 @@ use Rattle.replica_checks.specs.Says.{says}
 use Rattle.replica.specs.Answers.{read_heard}
 use Rattle.checks.specs.Results.{files_of, export_of, declined_of}
 use Rattle.hearing.specs.Hearing.{read_by, export_by}
-use Rattle.delivery.proofs.Hearing.{lent, Spans, lent_is}
 
 -- ---- the rows, and the files of a whole call
 
@@ -60,10 +60,10 @@ declined_files r new old e = rw e
 
 -- ---- the places
 
--- those of the lent medium are the member's
-pub places_are : (h : Shape) (v : Server) (i k at end : ℕ) (media : List ℕ) → Spans h.places i at end → k ≡ exported_mark v i
-    → places_from k 1 (lent at end media) ≡ exported_places h.places v i media
-places_are h v i k at end media w e = ap₂ (λ (n : ℕ) (m : List ℕ). places_from n 1 m) e (lent_is h.places i at end media w)
+-- those of the member's medium
+pub places_are : (h : Shape) (v : Server) (i k : ℕ) (medium media : List ℕ) → medium ≡ medium_at h.places i media → k ≡ exported_mark v i
+    → places_from k 1 medium ≡ exported_places h.places v i media
+places_are h v i k medium media e q = ap₂ (λ (n : ℕ) (m : List ℕ). places_from n 1 m) q e
 
 -- 20: the mark that is heard is the recorded one
 pub heard_mark : (N session recorded n : ℕ) (f : Fate) (m : List ℕ) → read_heard N session recorded f m ≡ Mark n → mark_of N m ≡ recorded

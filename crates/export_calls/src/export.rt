@@ -1,7 +1,6 @@
 // export: a member's log as the two files of a segment. It is a read that answers no place: what is exported goes into the lent files, and only if the
 // answer is ok.
 ghost use Rattle.std.specs.Prelude.{◌≡◌, List, ℕ, ◌≤◌, ◌<◌, length};
-ghost use Rattle.crc32.specs.Tables.{tables_of};
 ghost use Rattle.storage.specs.Sizes.{places_limit, medium_size};
 ghost use Rattle.storage.specs.Log.{places_from};
 ghost use Rattle.segment.specs.Pair.{Files, AllSized, pair_of};
@@ -15,16 +14,17 @@ ghost use Rattle.checks.specs.Results.{files_of, state_of, export_of, result_of}
 ghost use Rattle.hearing.specs.Hearing.{export_by};
 ghost use Rattle.delivery.specs.Messages.{Named};
 
-use checks::{Check, admit_replica, declined};
-use cluster::{Outcome, Phases, Records, Refusal, Server, Shape};
+use checks::{ONLY_OPEN, admit_replica, declined};
+use cluster::{Outcome, Records, Refusal, Server, Shape};
 use crc32::Tables;
-use delivery::span_of;
+use delivery::medium_of;
 use fate::Fate;
 use message_checks::check_message;
 use reading_calls::read::read_by;
 use replica_checks::Heard;
 use segment::header::{HEADER, Stamp};
 use segment::pair;
+use segment_writer::Log;
 use storage::sizes::{PLACE, Place};
 
 // The lesser of the member's mark and the acknowledged one.
@@ -32,24 +32,14 @@ fn exported_mark(v: Server, i: usize) -> usize
     requires { i < 7 }
     ensures { result ≡ exported_mark v i }
 {
-    let mark = v.marks[i];
-    if mark < v.acked {
-        return mark as usize;
-    }
-    v.acked as usize
+    v.marks[i].min(v.acked) as usize
 }
 
 // 1, of the two files: a length that is not the exact one.
-fn other_sizes(m: &[u8], k: usize, file: usize, index: usize) -> bool
-    requires k_in_bounds { medium_size k ≤ length m.now }
-    requires all_sized { AllSized k m.now }
-    requires k_le_places_limit { k ≤ places_limit }
-    ensures { (files : Files) → length files.data_file ≡ file → length files.index_file ≡ index → result ≡ other_sizes (places_from k 1 m.now) files }
+fn other_sizes(log: &Log, file: usize, index: usize) -> bool
+    ensures { (files : Files) → length files.data_file ≡ file → length files.index_file ≡ index → result ≡ other_sizes (places_from log.now.places 1 log.now.medium.now) files }
 {
-    if file != segment_writer::data_size(m, k) {
-        return true;
-    }
-    index != HEADER + pair::OFFSET * k
+    file != log.data_size() || index != HEADER + pair::OFFSET * log.places
 }
 
 // What the server makes of the answer: a mark comes with the two files of the medium's first k places.
@@ -65,7 +55,6 @@ fn export_by(
     file: &mut [u8],
     index: &mut [u8],
 ) -> Outcome
-    requires t_value { t.now ≡ tables_of }
     requires s_bound { (s < 4) × (i < 7) }
     requires k_in_bounds { (medium_size k ≤ length m.now) × (k ≤ places_limit) }
     requires by_index { (n : ℕ) → heard ≡ Mark n → AllSized k m.now }
@@ -74,10 +63,14 @@ fn export_by(
     let Heard::Mark(_) = heard else {
         return read_by(records, s, i, [0u8; PLACE], heard);
     };
-    if other_sizes(m, k, file.len(), index.len()) {
+    let log = Log {
+        medium: m,
+        places: k,
+    };
+    if other_sizes(&log, file.len(), index.len()) {
         return declined(records, Refusal::OutsideShape);
     }
-    segment_writer::write_pair(t, file, index, stamp, m, k);
+    log.write_pair(t, file, index, stamp);
     read_by(records, s, i, [0u8; PLACE], heard)
 }
 
@@ -94,29 +87,14 @@ fn export_sent(
     index: &mut [u8],
     fate: Fate,
 ) -> Outcome
-    requires t_value { t.now ≡ tables_of }
     requires named { (Named shape (server_at records s) i (length media.now)) × (s < 4) }
     ensures { ((given tables : List ℕ) → result_of result media.now tables ≡ once_sent shape (state_of records media.now tables) (export_of (call.Export s i fate) given stamp file.old index.old)) × (files_of file.new index.new ≡ if_ok (reply_of result.answer) (pair_of stamp (exported_places shape.places (server_at records s) i media.now)) (files_of file.old index.old)) }
 {
     let v = records.servers[s];
-    let recorded = v.marks[i];
-    let span = span_of(shape.places, i);
-    let at = span.at;
-    let end = span.end;
-    let heard = replica::read(t, &media[at..end], shape.places, v.session, recorded, fate);
+    let medium = medium_of(media, shape.places, i);
+    let heard = replica::read(t, medium, shape.places, v.session, v.marks[i], fate);
     let k = exported_mark(v, i);
-    export_by(
-        t,
-        records,
-        s,
-        i,
-        heard,
-        &media[at..end],
-        k,
-        stamp,
-        file,
-        index,
-    )
+    export_by(t, records, s, i, heard, medium, k, stamp, file, index)
 }
 
 // An export that is admitted. The CRC tables are made here, once for the check, the message and the files.
@@ -135,12 +113,11 @@ fn export_admitted(
     requires { (Named shape (server_at records s) i (length media.now)) × (s < 4) }
     ensures { ((tables : List ℕ) → result_of result media.now tables ≡ once_admitted shape (state_of records media.now tables) (export_of (call.Export s i fate) given.now stamp file.old index.old)) × (files_of file.new index.new ≡ if_ok (reply_of result.answer) (pair_of stamp (exported_places shape.places (server_at records s) i media.now)) (files_of file.old index.old)) }
 {
-    let t = crc32::tables();
+    let t = Tables::new();
     let v = records.servers[s];
-    let k = check_message(&t, shape, v, i, fate, given);
-    match k {
-        Check::Refuse(why) => declined(records, why),
-        Check::Pass => export_sent(&t, shape, records, media, s, i, stamp, file, index, fate),
+    match check_message(&t, shape, v, i, fate, given) {
+        Err(why) => declined(records, why),
+        Ok(()) => export_sent(&t, shape, records, media, s, i, stamp, file, index, fate),
     }
 }
 
@@ -160,22 +137,18 @@ pub fn export(
 ) -> Outcome
     ensures { (result_of result media.now tables.now ≡ step shape (state_of records media.now tables.now) (export_of (call.Export server replica fate) given.now stamp file.old index.old)) × (files_of file.new index.new ≡ files_after shape (state_of records media.now tables.now) (export_of (call.Export server replica fate) given.now stamp file.old index.old)) }
 {
-    let k = admit_replica(
+    let admitted = admit_replica(
         shape,
         records,
         media.len(),
         tables.len(),
         server,
         shape.replicas <= replica,
-        Phases {
-            idle: false,
-            opening: false,
-            open: true,
-        },
+        ONLY_OPEN,
     );
-    match k {
-        Check::Refuse(why) => declined(records, why),
-        Check::Pass => export_admitted(
+    match admitted {
+        Err(why) => declined(records, why),
+        Ok(()) => export_admitted(
             shape,
             records,
             media,

@@ -23,38 +23,29 @@ pub enum Fate {
 }
 
 // What becomes of write k of a message, from 1.
+#[tactic(auto, unfolding(crate::specs::Numbered::effect_of))]
 pub fn effect(f: Fate, k: u64) -> Left
     ensures { result ≡ effect_of f k }
 {
     match f {
-        Fate::Answered => Left::New,
+        Fate::Answered | Fate::AnswerLost => Left::New,
         Fate::Lost => Left::Old,
-        Fate::AnswerLost => Left::New,
-        Fate::Cut(w, l) => {
-            if k < w {
-                return Left::New;
-            }
-            if k == w {
-                return l;
-            }
-            Left::Old
-        }
+        Fate::Cut(w, _) if k < w => Left::New,
+        Fate::Cut(w, left) if k == w => left,
+        Fate::Cut(_, _) => Left::Old,
     }
 }
 
 // Write k: the bytes of src at an offset, as far as the fate lets it happen. Every write to a medium goes through here.
+#[tactic(auto, unfolding(crate::specs::Fates::leave))]
 pub fn store(m: &mut [u8], at: usize, src: &[u8], given: &[u8], f: Fate, k: u64)
     requires src_in_bounds { at + length src.now ≤ length m.old }
     requires src_in_bounds_2 { length src.now ≤ length given.now }
     ensures { m.new ≡ leave (effect_of f k) given.now (record { at = at; bytes = src.now }) m.old }
 {
-    let e = effect(f, k);
-    match e {
+    match effect(f, k) {
         Left::Old => {}
         Left::New => octets::put(m, at, src),
-        Left::Torn => {
-            let n = src.len();
-            octets::put(m, at, &given[..n]);
-        }
+        Left::Torn => octets::put(m, at, &given[..src.len()]),
     }
 }

@@ -1,6 +1,6 @@
 -- REPEATABLE LOAD. Document 02, No. 11: "Field staff want the same load on every site." A seed gives states, a state a draw, and draws a call.
 -- Assumes nothing.
-use Rattle.std.specs.Prelude.{ℕ, zero, suc, ◌+◌, ◌*◌, ◌/◌, ◌%◌, ◌^◌, cond, List, [], ◌∷◌, ◌==◌, slice_index_or}
+use Rattle.std.specs.Prelude.{ℕ, zero, suc, ◌+◌, ◌*◌, ◌/◌, ◌%◌, ◌^◌, cond, List, [], ◌∷◌, ◌==◌, slice_index_or, None, option_to_list}
 use Rattle.fate.specs.declared.Fate.{Fate}
 use Rattle.fate.specs.declared.Fate.TheVariants.{Answered, Lost, AnswerLost}
 use Rattle.cluster.specs.declared.Call.{Call}
@@ -104,27 +104,11 @@ unfoldable pub calls_of : ℕ → ℕ → ℕ → ℕ → List Meaning
 calls_of r n zero s = []
 calls_of r n (suc k) s = (call_of r n s).meaning ∷ calls_of r n k (call_of r n s).state
 
--- ---- as the code gives it: the call, a byte, the state
-
--- the byte is an issue's data; no other call has data
-abbrev pub content_of : Call → ℕ → List ℕ
-content_of (call.Issue v q) b = b ∷ []
-content_of (call.Take v f) b = []
-content_of (call.Prepare v i f) b = []
-content_of (call.Copy v i j f) b = []
-content_of (call.Trim v i f) b = []
-content_of (call.Open v f) b = []
-content_of (call.Send v i f) b = []
-content_of (call.Note v i f) b = []
-content_of (call.Read v i n f) b = []
-content_of (call.Export v i f) b = []
-content_of (call.Stop v) b = []
-content_of call.Reassign b = []
-content_of (call.Restore i) b = []
+-- ---- as the code gives it: the call, its data's byte, the state
 
 abbrev pub made_of : Drawn → Made
-made_of d = record { meaning = asked d.call (content_of d.call d.byte) []; state = d.state }
+made_of d = record { meaning = asked d.call (option_to_list d.byte) []; state = d.state }
 
 -- a call without data
 abbrev pub bare_of : Call → ℕ → Drawn
-bare_of c s = record { call = c; byte = 0; state = s }
+bare_of c s = record { call = c; byte = None; state = s }

@@ -3,7 +3,6 @@
 use mathlib.Core.Path.{◌≡◌, refl}
 use mathlib.Core.List.{List}
 use Prim.Native.Nat.{ℕ}
-use Rattle.cluster.specs.declared.Refusal.{Refusal}
 use Rattle.cluster.specs.declared.Records.{Records}
 use Rattle.cluster.specs.declared.Server.{Server}
 use Rattle.cluster.specs.State.{server_at}
@@ -14,13 +13,6 @@ use Rattle.checks.specs.declared.Change.{Change}
 use Rattle.checks.specs.Results.{changed}
 use Rattle.checks.proofs.Frame.{declined_server}
 use Rattle.hearing.specs.Hearing.{on_heard, after_silence, read_by}
-
--- the `else` of an `if let Declined`
-pub not_declined : (v : Server) (quiet : Change) (h : Heard) → ((why : Refusal) → h ≡ Declined why → ⊥) → quiet ≡ on_heard v (λ n. quiet) quiet h
-unfolding on_heard
-not_declined v quiet Silent t = refl
-not_declined v quiet (Declined why) t = absurd (t why refl)
-not_declined v quiet (Mark n) t = refl
 
 -- the `else` of a `let Mark`
 pub not_heard : (v : Server) (done other : ℕ → Change) (quiet : Change) (h : Heard) → ((n : ℕ) → h ≡ Mark n → ⊥) → on_heard v other quiet h ≡ on_heard v done quiet h

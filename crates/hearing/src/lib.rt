@@ -27,12 +27,9 @@ pub fn with_unheard(v: Server, i: usize) -> Server
     requires { i < 7 }
     ensures { result ≡ unheard v i }
 {
-    let p = v.phase;
-    let mark = v.marks[i];
-    match p {
-        Phase::Idle => with_replica(v, i, false, false, 0),
-        Phase::Opening => with_replica(v, i, false, false, 0),
-        Phase::Open => with_replica(v, i, true, true, mark),
+    match v.phase {
+        Phase::Idle | Phase::Opening => with_replica(v, i, false, false, 0),
+        Phase::Open => with_replica(v, i, true, true, v.marks[i]),
     }
 }
 
@@ -47,11 +44,7 @@ pub fn with_heard(v: Server, i: usize, mark: u64) -> Server
 fn is_open(p: Phase) -> bool
     ensures { result ≡ is_open p }
 {
-    match p {
-        Phase::Idle => false,
-        Phase::Opening => false,
-        Phase::Open => true,
-    }
+    matches!(p, Phase::Open)
 }
 
 // The highest mark that a quorum of members reach, dropped ones included, is acknowledged.
@@ -59,11 +52,10 @@ fn acknowledged(v: Server, r: usize) -> Server
     requires { r ≤ 7 }
     ensures { result ≡ acknowledge r v }
 {
-    let known = v.known;
-    let marks = v.marks;
-    let mut next = v;
-    next.acked = majority(known, marks, r);
-    next
+    Server {
+        acked: majority(v.known, v.marks, r),
+        ..v
+    }
 }
 
 // A server that is open counts what is acknowledged after an append.
@@ -71,24 +63,24 @@ fn counted_if(v: Server, counts: bool, p: Phase, r: usize) -> Server
     requires { r ≤ 7 }
     ensures { result ≡ counted counts r p v }
 {
-    if counts {
-        if is_open(p) {
-            return acknowledged(v, r);
-        }
+    if counts && is_open(p) {
+        acknowledged(v, r)
+    } else {
+        v
     }
-    v
 }
 
 // No mark was heard: the replica declined and nothing changes, or it is silent.
+#[tactic(auto, unfolding(crate::specs::Hearing::on_heard))]
 pub fn no_mark(v: Server, silent: Server, heard: Heard) -> Change
     ensures { result ≡ on_heard v (λ n. after_silence silent) (after_silence silent) heard }
 {
-    if let Heard::Declined(why) = heard {
-        return unchanged_server(v, why);
-    }
-    Change {
-        server: silent,
-        answer: Answer::Silent,
+    match heard {
+        Heard::Declined(why) => unchanged_server(v, why),
+        Heard::Silent | Heard::Mark(_) => Change {
+            server: silent,
+            answer: Answer::Silent,
+        },
     }
 }
 
@@ -96,12 +88,7 @@ pub fn no_mark(v: Server, silent: Server, heard: Heard) -> Change
 fn answer_of(counts: bool, p: Phase, acked: u64, n: u64) -> u64
     ensures { result ≡ cond (counts && is_open p) acked n }
 {
-    if counts {
-        if is_open(p) {
-            return acked;
-        }
-    }
-    n
+    if counts && is_open(p) { acked } else { n }
 }
 
 // `counts`: the operation was an append.

@@ -2,12 +2,19 @@
 -- Assumes nothing.
 use mathlib.Core.Path.{◌≡◌, refl, sym, ap, ◌∙◌}
 use mathlib.Core.List.{List, [], ◌∷◌}
-use mathlib.Core.Bool.{true, false, ◌&&◌}
-use Prim.Native.Nat.{ℕ, suc, ◌+◌, ◌-◌, ◌*◌, ◌/◌, ◌<◌, ◌≤◌}
+use mathlib.Core.Bool.{Bool, true, false, ◌&&◌}
+use mathlib.Core.Logic.{◌≢◌, ◌↔◌}
+use Rattle.std.specs.Bool.{IsTrue}
+use Rattle.std.specs.Prelude.{EachIndex, Option, None, Some, SomeIff, IsSome}
+use Rattle.std.proofs.lemmas.Bool.{false_from_ne_true, false≢true}
+use Rattle.std.proofs.Math.Bool.{and-false}
+use Prim.Native.Nat.{ℕ, zero, suc, ◌+◌, ◌-◌, ◌*◌, ◌/◌, ◌%◌, ◌<◌, ◌≤◌}
 use native.Mathlib.Omega.{arith}
 use lib.Dec.{ltb}
-use lib.ListN.{length, get_or, drop, set, length-drop, drop_of_length-le}
-use borrow.Author.Tests.{lt-ltb, le-ltb, le-leb, lt-leb, ltb-true}
+use lib.ListN.{length, get_or, drop, set, length-drop}
+use borrow.Author.Tests.{lt-ltb, ltb-true}
+use borrow.Author.Rules.{rules}
+use Rattle.std.proofs.lemmas.Bool.Decides.{nat_tests}
 use Rattle.base.proofs.Tests.{both}
 use Rattle.octets.specs.Octets.{write_at}
 use Rattle.octets.proofs.Lists.{drop_next}
@@ -17,34 +24,13 @@ use Rattle.hex_digits.proofs.Writes.{write_next}
 
 -- ---- one digit
 
-module _ (b : ℕ) where
-  pub below_digits : b < 48 → 16 ≡ digit_of b
-  unfolding digit_of
-  below_digits h = let p : b < 65 = omega arith in let q : b < 97 = omega arith in rw (lt-leb 48 b h, lt-leb 65 b p, lt-leb 97 b q)
+pub digit_figure : (b : ℕ) → 48 ≤ b → b ≤ 57 → b - 48 ≡ digit_of b
+unfolding digit_of
+digit_figure b l h = grind (arith, nat_tests)
 
-  pub digit_figure : 48 ≤ b → b ≤ 57 → b - 48 ≡ digit_of b
-  unfolding digit_of
-  digit_figure l h = rw (le-leb 48 b l, le-leb b 57 h)
-
-  pub below_capitals : 57 < b → b < 65 → 16 ≡ digit_of b
-  unfolding digit_of
-  below_capitals l h = let p : 48 ≤ b = omega arith in let q : b < 97 = omega arith in rw (le-leb 48 b p, lt-leb b 57 l, lt-leb 65 b h, lt-leb 97 b q)
-
-  pub digit_capital : 65 ≤ b → b ≤ 70 → b - 55 ≡ digit_of b
-  unfolding digit_of
-  digit_capital l h = let p : 48 ≤ b = omega arith in let q : 57 < b = omega arith in rw (le-leb 48 b p, lt-leb b 57 q, le-leb 65 b l, le-leb b 70 h)
-
-  pub below_small : 70 < b → b < 97 → 16 ≡ digit_of b
-  unfolding digit_of
-  below_small l h = let p : 48 ≤ b = omega arith in let q : 57 < b = omega arith in let r : 65 ≤ b = omega arith in rw (le-leb 48 b p, lt-leb b 57 q, le-leb 65 b r, lt-leb b 70 l, lt-leb 97 b h)
-
-  pub digit_small : 97 ≤ b → b ≤ 102 → b - 87 ≡ digit_of b
-  unfolding digit_of
-  digit_small l h = let p : 48 ≤ b = omega arith in let q : 57 < b = omega arith in let r : 65 ≤ b = omega arith in let t : 70 < b = omega arith in rw (le-leb 48 b p, lt-leb b 57 q, le-leb 65 b r, lt-leb b 70 t, le-leb 97 b l, le-leb b 102 h)
-
-  pub above_digits : 102 < b → 16 ≡ digit_of b
-  unfolding digit_of
-  above_digits h = let p : 48 ≤ b = omega arith in let q : 57 < b = omega arith in let r : 65 ≤ b = omega arith in let t : 70 < b = omega arith in let u : 97 ≤ b = omega arith in rw (le-leb 48 b p, lt-leb b 57 q, le-leb 65 b r, lt-leb b 70 t, le-leb 97 b u, lt-leb b 102 h)
+pub digit_capital : (b : ℕ) → 65 ≤ b → b ≤ 70 → b - 55 ≡ digit_of b
+unfolding digit_of
+digit_capital b l h = grind (arith, nat_tests)
 
 -- ---- a pair
 
@@ -64,21 +50,6 @@ module _ (s : List ℕ) (i : ℕ) where
   unfolding is_hex
   hex_cons h = ap is_hex (pair_next h)
 
-  pub hex_odd : i < length s → i + 1 ≡ length s → is_hex (drop i s) ≡ false
-  unfolding is_hex
-  hex_odd h e =
-      let q : length s ≤ i + 1 = omega arith in
-      ap is_hex (drop_next s i h ∙ ap (λ (l : List ℕ). get_or s i 0 ∷ l) (drop_of_length-le s q))
-
-  pub hex_first : i + 1 < length s → 15 < a → is_hex (drop i s) ≡ false
-  hex_first h n = hex_cons h ∙ rw (le-ltb a 16 n)
-
-  pub hex_second : i + 1 < length s → a < 16 → 15 < b → is_hex (drop i s) ≡ false
-  hex_second h m n = hex_cons h ∙ rw (lt-ltb a 16 m, le-ltb b 16 n)
-
-  pub hex_both : i + 1 < length s → a < 16 → b < 16 → is_hex (drop i s) ≡ is_hex (drop (i + 2) s)
-  hex_both h m n = hex_cons h ∙ rw (lt-ltb a 16 m, lt-ltb b 16 n)
-
   -- what digits in pairs say of the next two
   pub hex_digits : i + 1 < length s → is_hex (drop i s) ≡ true → (a < 16) × (b < 16) × (is_hex (drop (i + 2) s) ≡ true)
   hex_digits h e =
@@ -90,9 +61,36 @@ module _ (s : List ℕ) (i : ℕ) where
   unfolding bytes_of
   bytes_next h = ap bytes_of (pair_next h)
 
-pub hex_end : (s : List ℕ) (i : ℕ) → length s ≤ i → is_hex (drop i s) ≡ true
+-- ---- all of them
+
+hex_all : (s : List ℕ) → length s % 2 ≡ 0 → EachIndex s (λ k. digit_of (get_or s k 0) < 16) → is_hex s ≡ true
 unfolding is_hex
-hex_end s i h = ap is_hex (drop_of_length-le s h)
+hex_all [] e h = refl
+hex_all (x ∷ []) e h = absurd (omega arith)
+hex_all (x ∷ y ∷ s) e h =
+    let l : 0 < suc (suc (length s)) = omega arith in
+    let m : 1 < suc (suc (length s)) = omega arith in
+    rw (lt-ltb (digit_of x) 16 (h 0 l), lt-ltb (digit_of y) 16 (h 1 m), hex_all s (omega arith) (λ k n. h (suc (suc k)) (omega arith)))
+
+all_hex : (s : List ℕ) → is_hex s ≡ true → EachIndex s (λ k. digit_of (get_or s k 0) < 16)
+unfolding is_hex
+all_hex [] e k h = absurd (omega arith)
+all_hex (x ∷ []) e k h = absurd (cc)
+all_hex (x ∷ y ∷ s) e zero h = ltb-true (digit_of x) 16 (both (ltb (digit_of x) 16) (ltb (digit_of y) 16) (both (ltb (digit_of x) 16 && ltb (digit_of y) 16) (is_hex s) e).0).0
+all_hex (x ∷ y ∷ s) e (suc zero) h = ltb-true (digit_of y) 16 (both (ltb (digit_of x) 16) (ltb (digit_of y) 16) (both (ltb (digit_of x) 16 && ltb (digit_of y) 16) (is_hex s) e).0).1
+all_hex (x ∷ y ∷ s) e (suc (suc k)) h = all_hex s (both (ltb (digit_of x) 16 && ltb (digit_of y) 16) (is_hex s) e).1 k (omega arith)
+
+-- an even number of digits
+pub hex_even : (s : List ℕ) (b : Bool) → length s % 2 ≡ 0 → IsTrue b ↔ EachIndex s (λ k. digit_of (get_or s k 0) < 16) → b ≡ is_hex s
+hex_even s true e h = sym (hex_all s e (h.0 refl))
+hex_even s false e h = sym (false_from_ne_true (is_hex s) (λ p. false≢true (h.1 (all_hex s p))))
+
+-- a digit too many
+pub hex_odd : (s : List ℕ) → length s % 2 ≢ 0 → is_hex s ≡ false
+unfolding is_hex
+hex_odd [] e = absurd (e refl)
+hex_odd (x ∷ []) e = refl
+hex_odd (x ∷ y ∷ s) e = rw (hex_odd s (omega arith), and-false (ltb (digit_of x) 16 && ltb (digit_of y) 16))
 
 bytes_none : (l : List ℕ) → length l ≤ 1 → bytes_of l ≡ []
 unfolding bytes_of
@@ -108,6 +106,15 @@ unfolding bytes_of
 bytes_length [] = refl
 bytes_length (x ∷ []) = refl
 bytes_length (x ∷ y ∷ s) = let q : suc (length s / 2) ≡ suc (suc (length s)) / 2 = omega arith in ap suc (bytes_length s) ∙ q
+
+-- a digit that is found, and what it is
+pub found : (r : Option ℕ) (v : ℕ) → SomeIff r (v < 16) v → v < 16 → IsSome r
+found None v f p = absurd (f p)
+found (Some x) v f p = search rules
+
+pub found_is : (r : Option ℕ) (v x : ℕ) → SomeIff r (v < 16) v → r ≡ Some x → x ≡ v
+found_is None v x f e = absurd (cc)
+found_is (Some y) v x f e = cc
 
 -- ---- reading: x and y are the digits of byte i, and o is what is written
 

@@ -1,66 +1,45 @@
 // Bytes as hexadecimal digits, two a byte: read in either case, written in capitals.
 #![tactic(auto)]
 
-ghost use Rattle.std.specs.Prelude.{◌≡◌, true, ◌*◌, ◌<◌, ◌≤◌, length};
+ghost use Rattle.std.specs.Prelude.{◌≡◌, ◌↔◌, true, ◌*◌, ◌<◌, ◌≤◌, length, slice_index, EachIndex, IsTrue, SomeIff};
 ghost use Rattle.octets.specs.Octets.{write_at};
 ghost use Rattle.hex_digits.specs.Hex.{digit_of, is_hex, bytes_of, glyph_of, hex_of};
 
-// What a hexadecimal digit stands for; 16 where the byte is none.
-fn digit(b: u8) -> u8
-    ensures { result ≡ digit_of b }
+// What a hexadecimal digit stands for, if the byte is one.
+#[tactic(auto, using(std::proofs::lemmas::Bool::Decides::nat_tests), unfolding(crate::specs::Hex::digit_of))]
+fn digit(b: u8) -> Option<u8>
+    ensures { SomeIff result (digit_of b < 16) (digit_of b) }
 {
-    if b < b'0' {
-        return 16;
+    match b {
+        b'0'..=b'9' => Some(b - b'0'),
+        b'A'..=b'F' => Some(b - b'A' + 10),
+        b'a'..=b'f' => Some(b - b'a' + 10),
+        _ => None,
     }
-    if b <= b'9' {
-        return b - b'0';
-    }
-    if b < b'A' {
-        return 16;
-    }
-    if b <= b'F' {
-        return b - 55;
-    }
-    if b < b'a' {
-        return 16;
-    }
-    if b <= b'f' {
-        return b - 87;
-    }
-    16
+}
+
+fn all_digits(s: &[u8]) -> bool
+    ensures { IsTrue result ↔ EachIndex s.now (λ k. digit_of (slice_index s.now k) < 16) }
+{
+    s.iter().all(|b| digit(*b).is_some())
 }
 
 // Whether a field is digits in pairs.
 pub fn is_hex(s: &[u8]) -> bool
     ensures { result ≡ is_hex s.now }
 {
-    let mut i = 0;
-    while i < s.len() {
-        if i + 1 == s.len() {
-            return false;
-        }
-        if 15 < digit(s[i]) {
-            return false;
-        }
-        if 15 < digit(s[i + 1]) {
-            return false;
-        }
-        i += 2;
-    }
-    true
+    s.len() % 2 == 0 && all_digits(s)
 }
 
-// The bytes that they stand for, at the start of out.
+// The bytes that they stand for, at the start of out. By index, here and in `spell`: no law of std's ties what a loop over `iter_mut` zipped with
+// `chunks_exact`, or over `chunks_exact_mut`, writes to the slice, and the proof of such a loop did not close (locks `fill_table`).
 pub fn read(s: &[u8], out: &mut [u8])
     requires s_value { is_hex s.now ≡ true }
     requires s_len_bound { length s.now ≤ 2 * length out.old }
     ensures { out.new ≡ write_at 0 (bytes_of s.now) out.old }
 {
-    let n = s.len() / 2;
-    let mut i = 0;
-    while i < n {
-        out[i] = 16 * digit(s[2 * i]) + digit(s[2 * i + 1]);
-        i += 1;
+    for i in 0..s.len() / 2 {
+        out[i] = 16 * digit(s[2 * i]).unwrap() + digit(s[2 * i + 1]).unwrap();
     }
 }
 
@@ -69,10 +48,7 @@ fn glyph(d: u8) -> u8
     requires { d < 16 }
     ensures { result ≡ glyph_of d }
 {
-    if d < 10 {
-        return b'0' + d;
-    }
-    b'A' + (d - 10)
+    if d < 10 { b'0' + d } else { b'A' + (d - 10) }
 }
 
 // The digits of some bytes.
@@ -80,10 +56,8 @@ pub fn spell(b: &[u8], out: &mut [u8])
     requires { length out.old ≡ 2 * length b.now }
     ensures { out.new ≡ hex_of b.now }
 {
-    let mut i = 0;
-    while i < b.len() {
+    for i in 0..b.len() {
         out[2 * i] = glyph(b[i] / 16);
         out[2 * i + 1] = glyph(b[i] % 16);
-        i += 1;
     }
 }

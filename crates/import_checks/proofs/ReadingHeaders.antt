@@ -1,13 +1,16 @@
 -- Refusal 24: equal bytes, and its cases in the order in which the code tries them.
 -- Assumes nothing.
 use mathlib.Core.Path.{◌≡◌, refl, sym, ap, ◌∙◌}
-use mathlib.Core.Bool.{Bool, true, false, not}
-use mathlib.Core.List.{List}
-use Prim.Native.Nat.{ℕ, ◌<◌, ◌≤◌}
-use native.Mathlib.Omega.{arith}
-use lib.Dec.{ltb}
-use lib.ListN.{length, take, drop, length-take}
-use borrow.Author.Tests.{not-false}
+use mathlib.Core.Bool.{Bool, true, false}
+use mathlib.Core.List.{List, ◌++◌}
+use Prim.Native.Nat.{ℕ}
+use lib.Dec.{eqb, ltb}
+use lib.ListN.{length, take, drop}
+use lib.Seq.{take-append_seam}
+use Rattle.std.specs.List.{starts_with}
+use Rattle.std.proofs.lemmas.List.{take-append-drop}
+use Rattle.std.proofs.lemmas.Slice.Eq.{starts_is}
+use Rattle.std.proofs.lemmas.Bool.Decides.{Decides-eqb}
 use Rattle.octets.specs.Octets.{all_zero}
 use Rattle.storage.specs.Sizes.{slots_size}
 use Rattle.segment.specs.declared.header.Stamp.{Stamp}
@@ -27,19 +30,13 @@ same_is false s t f g = go (same_bytes s t) refl
     go true w = g (same_bytes_lem s t w)
     go false w = refl
 
--- a file that is too short for a header
-pub too_short : (s h : List ℕ) → length h ≡ header_size → length s < header_size → true ≡ not (same_bytes (take header_size s) h)
-too_short s h l k = go (same_bytes (take header_size s) h) refl
-  where
-    go : (q : Bool) → same_bytes (take header_size s) h ≡ q → true ≡ not q
-    go true w = absurd (omega (arith, length-take header_size s, ap length (same_bytes_lem (take header_size s) h w), l, k))
-    go false w = refl
-
--- and one that has it is long enough
-pub long_enough : (s h : List ℕ) → length h ≡ header_size → not (same_bytes (take header_size s) h) ≡ false → header_size ≤ length s
-long_enough s h l e =
-    let q = same_bytes_lem (take header_size s) h (not-false (same_bytes (take header_size s) h) e) in
-    omega (arith, length-take header_size s, ap length q, l)
+-- as the library's `starts_with` does
+pub starts_same : (r : Bool) (s h : List ℕ) → length h ≡ header_size → r ≡ starts_with eqb s h → r ≡ same_bytes (take header_size s) h
+starts_same r s h l e =
+    let t = starts_is Decides-eqb s h r e in
+    same_is r (take header_size s) h
+    (λ q. ap (take header_size) (t.0 q) ∙ ap (λ (k : ℕ). take k (h ++ drop (length h) s)) (sym l) ∙ take-append_seam h (drop (length h) s))
+    (λ q. t.1 (drop header_size s) (sym (take-append-drop header_size s) ∙ ap (λ (x : List ℕ). x ++ drop header_size s) q))
 
 -- ---- the cases
 

@@ -10,6 +10,7 @@ use lib.Dec.{eqb, leb}
 use lib.ListN.{length, take, drop, length-drop}
 use lib.Seq.{drop-drop}
 use borrow.Author.Tests.{leb-true, leb-false, eq-eqb, ne_eqb}
+use Rattle.std.specs.Prelude.{Some, None}
 use Rattle.octets.specs.Octets.{be_of}
 use Rattle.octets.proofs.Laws.{between_part}
 use Rattle.storage.specs.Sizes.{data_limit}
@@ -69,19 +70,19 @@ module _ (b : Bool) (n k : ℕ) (is : List ℕ) (o : ℕ) (s : List ℕ) where
 -- ---- the same, at the offsets that the code keeps
 
 -- what `size_at` answers
-pub size_zero : (r : ℕ) (s : List ℕ) → r ≡ cond (sized s) (record_size s) 0 → r ≡ 0 → sized s ≡ false
-size_zero r s e z = go (sized s) refl
+pub size_none : (s : List ℕ) → None ≡ cond (sized s) (Some (record_size s)) None → sized s ≡ false
+size_none s e = go (sized s) refl
   where
     go : (b : Bool) → sized s ≡ b → b ≡ false
-    go true w = let q : r ≡ record_size s = rw w at e in absurd (omega (arith, q, z, size_is s))
+    go true w = let q = rw w at e in absurd (cc)
     go false w = refl
 
-pub size_there : (r : ℕ) (s : List ℕ) → r ≡ cond (sized s) (record_size s) 0 → (r ≡ 0 → ⊥) → (sized s ≡ true) × (r ≡ record_size s)
-size_there r s e z = go (sized s) refl
+pub size_some : (r : ℕ) (s : List ℕ) → Some r ≡ cond (sized s) (Some (record_size s)) None → (sized s ≡ true) × (r ≡ record_size s)
+size_some r s e = go (sized s) refl
   where
     go : (b : Bool) → sized s ≡ b → (b ≡ true) × (r ≡ record_size s)
-    go true w = (refl, rw w at e)
-    go false w = absurd (z (rw w at e))
+    go true w = let q = rw w at e in (refl, cc)
+    go false w = let q = rw w at e in absurd (cc)
 
 module _ (b : Bool) (n at i count : ℕ) (index file : List ℕ) where
   -- the part of the index that is read

@@ -1,15 +1,13 @@
 -- Why an import is declined. Document 02, No. 3: "Import the pair, with the same time and key handed in, into a medium that is in no cluster and whose
 -- places are all wiped." Each condition under its sentence, in import's order.
 -- Assumes nothing.
-use Rattle.std.specs.Prelude.{List, [], ◌∷◌, Bool, true, false, not, cond, ◌&&◌, ◌||◌, ℕ, zero, suc, ◌+◌, ◌-◌, ◌/◌, eqb, leb, ltb, length, take, drop}
+use Rattle.std.specs.Prelude.{List, [], ◌∷◌, Result, Ok, Err, Bool, true, false, not, cond, ◌&&◌, ◌||◌, ℕ, zero, suc, ◌+◌, ◌-◌, ◌/◌, eqb, leb, ltb, length, take, drop}
 use Rattle.octets.specs.Octets.{be_of, all_zero}
 use Rattle.storage.specs.Sizes.{slots_size, places_limit, medium_size}
 use Rattle.segment.specs.declared.header.Stamp.{Stamp}
 use Rattle.segment.specs.Header.{header_size, header_bytes}
 use Rattle.segment.specs.Records.{record_size, sized, is_record}
 use Rattle.segment.specs.Pair.{Files, offset_size, index_size}
-use Rattle.import_checks.specs.declared.Imported.{Imported}
-use Rattle.import_checks.specs.declared.Imported.TheVariants.{Done, Declined}
 use Rattle.import_checks.specs.declared.Reason.{Reason}
 use Rattle.import_checks.specs.declared.Reason.TheVariants.{UnfitSlices, Unready, OtherOffset, UnfitRecord}
 
@@ -27,9 +25,9 @@ number_of Unready = 24
 number_of OtherOffset = 25
 number_of UnfitRecord = 26
 
-abbrev pub reply_of : Imported → Reply
-reply_of Done = ok
-reply_of (Declined why) = no (number_of why)
+abbrev pub reply_of : Result (Unit {0}) Reason → Reply
+reply_of (Ok done) = ok
+reply_of (Err why) = no (number_of why)
 
 -- ================ the conditions
 

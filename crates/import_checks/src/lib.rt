@@ -3,6 +3,9 @@
 
 pub mod judge;
 
+ghost use Rattle.std.specs.Prelude.{◌≡◌};
+ghost use Rattle.import_checks.specs.Refusals.{number_of};
+
 // Why an import is declined, in the order in which it is checked.
 #[derive(Clone, Copy)]
 pub enum Reason {
@@ -12,8 +15,16 @@ pub enum Reason {
     UnfitRecord,
 }
 
-#[derive(Clone, Copy)]
-pub enum Imported {
-    Done,
-    Declined(Reason),
+// The number by which import declines.
+impl From<Reason> for u64 {
+    ghost from_gives = { λ why number. number ≡ number_of why };
+
+    fn from(why: Reason) -> u64 {
+        match why {
+            Reason::UnfitSlices => 1,
+            Reason::Unready => 24,
+            Reason::OtherOffset => 25,
+            Reason::UnfitRecord => 26,
+        }
+    }
 }

@@ -5,6 +5,7 @@ use Rattle.std.specs.Prelude.{cond, List, [], ◌∷◌, ◌++◌, ℕ, eqb, len
 use Rattle.lines.specs.Forms.{meaning_of}
 use Rattle.replies.specs.Texts.{newline}
 use Rattle.answers.specs.declared.answer.Held.{Held}
+use Rattle.interpreter.specs.declared.program.Running.{Running}
 use Rattle.answers.specs.Sizes.{line_room, media_limit, tables_length}
 use Rattle.answers.specs.Answers.{After, nothing, answer_to}
 
@@ -50,6 +51,10 @@ written_for input = (closed (fed (start (replicate media_limit 0) (replicate tab
 abbrev pub emptied : Program → Program
 emptied p = record { line = p.line; held = p.held; media = p.media; tables = p.tables; out = [] }
 
--- what the running program holds: n bytes of a line, o bytes of replies, and the cluster
+-- n bytes of a line, o bytes of replies, and the cluster
 abbrev pub program_of : ℕ → ℕ → Held → List ℕ → List ℕ → List ℕ → List ℕ → Program
 program_of n o h line m tables out = record { line = take n line; held = h; media = m; tables = tables; out = take o out }
+
+-- what the running program holds
+abbrev pub program_in : Running → Program
+program_in r = program_of r.n r.o r.cluster.held r.line r.cluster.media r.cluster.tables r.out

@@ -13,8 +13,9 @@ ghost use Rattle.cluster.specs.Effects.{issued_fields, issued_server};
 ghost use Rattle.cluster.specs.Step.{step, issue_under};
 ghost use Rattle.checks.specs.Results.{no_files, no_stamp, state_of, result_of};
 
-use checks::{Change, Check};
+use checks::Change;
 use cluster::{Answer, Held, Outcome, Records, Request, Server, Shape, TABLE};
+use crc32::Tables;
 use issue_checks::judge;
 use limits::{Limits, limits_of};
 use servers::held::appended;
@@ -26,15 +27,14 @@ fn held_after(held: Held, id: u64, request: Request, content: &[u8]) -> Held
     ensures { result ≡ held_after held (record_bytes (issued_fields id request) content.now) }
 {
     let fields = Fields {
-        id: id,
+        id,
         client: request.client,
         generation: request.generation,
         partition: request.partition,
         sequence: request.sequence,
         header: request.header,
     };
-    let t = crc32::tables();
-    appended(&t, held, fields, content)
+    appended(&Tables::new(), held, fields, content)
 }
 
 // A server's record once the request is issued, and the ID as the answer.
@@ -44,13 +44,13 @@ fn issued(v: Server, request: Request, content: &[u8]) -> Change
     ensures { result ≡ record { server = issued_server v request content.now; answer = Value (v.issued + 1) } }
 {
     let id = v.issued + 1;
-    let before = v.held;
-    let held = held_after(before, id, request, content);
-    let mut next = v;
-    next.issued = id;
-    next.held = held;
+    let held = held_after(v.held, id, request, content);
     Change {
-        server: next,
+        server: Server {
+            issued: id,
+            held,
+            ..v
+        },
         answer: Answer::Value(id),
     }
 }
@@ -61,8 +61,7 @@ fn mark(tables: &mut [u64], i: usize, locks: &[u64], id: u64)
     ensures { tables.new ≡ with_table i (marked_all (table_at i tables.old) locks.now id) tables.old }
 {
     let at = i * TABLE;
-    let end = at + TABLE;
-    locks::mark_all(&mut tables[at..end], locks, id);
+    locks::mark_all(&mut tables[at..at + TABLE], locks, id);
 }
 
 // issue under a pair of limits that a place has room for.
@@ -80,21 +79,16 @@ fn issue_under(
     requires { limits.bytes ≤ data_limit }
     ensures { result_of result media.now tables.new ≡ issue_under limits shape (state_of records media.now tables.old) server request content.now locks.now }
 {
-    let k = checks::admit_server(shape, records, media.len(), tables.len(), server);
-    if let Check::Refuse(why) = k {
+    if let Err(why) = checks::admit_server(shape, records, media.len(), tables.len(), server) {
         return checks::declined(records, why);
     }
     let i = server as usize;
     let v = records.servers[i];
-    let k = judge(shape, limits, v, request, content.len(), tables, i, locks);
-    match k {
-        Check::Refuse(why) => checks::declined(records, why),
-        Check::Pass => {
-            let c = issued(v, request, content);
-            mark(tables, i, locks, v.issued + 1);
-            checks::settle(records, i, c)
-        }
+    if let Err(why) = judge(shape, limits, v, request, content.len(), tables, i, locks) {
+        return checks::declined(records, why);
     }
+    mark(tables, i, locks, v.issued + 1);
+    checks::settle(records, i, issued(v, request, content))
 }
 
 // issue, under the pair that belongs to the client.

@@ -1,19 +1,14 @@
 -- The register after the eight bytes of a number below 2 ^ 16: six zeros, whatever the number, and two bytes that are looked up apart.
 -- Assumes nothing.
-use mathlib.Core.Path.{◌≡◌, refl, sym, ap, ap₂, ◌∙◌}
+use mathlib.Core.Path.{◌≡◌, refl, sym, ap, ◌∙◌}
 use mathlib.Core.List.{List, [], ◌∷◌, ◌++◌}
-use Prim.Native.Nat.{ℕ, ◌+◌, ◌/◌, ◌%◌, ◌<◌}
-use native.Mathlib.Nat.{zero-add, mod-lt}
+use Prim.Native.Nat.{ℕ, ◌/◌, ◌%◌, ◌<◌}
 use native.Mathlib.Omega.{arith}
-use lib.Dec.{lit<}
-use lib.ListN.{get_or}
 use lib.Bits.{bit_xor, xor_comm}
 use Rattle.octets.specs.Octets.{be_bytes}
 use Rattle.crc32.specs.Crc32.{bit_step, bit_steps, crc_from}
-use Rattle.crc32.specs.Tables.{tables_of}
 use Rattle.crc32.proofs.Xor.{xor_assoc}
 use Rattle.crc32.proofs.Steps.{steps_add, steps_linear}
-use Rattle.crc32.proofs.Rows.{entry_at_lem}
 use Rattle.crc32.proofs.Words.{crc_append}
 use Rattle.lanes.specs.Lanes.{after_number}
 
@@ -40,12 +35,10 @@ behind_zeros : bit_steps 16 (crc_from 0xffff_ffff zeros) ≡ 0x9add_2096
 unfolding crc_from bit_steps bit_step zeros
 behind_zeros = refl
 
-pub small : (t : List ℕ) (n : ℕ) → t ≡ tables_of → n < 65536 → bit_xor (bit_xor (get_or t (256 + n / 256) 0) (get_or t (n % 256) 0)) 0x9add_2096 ≡ after_number n
+pub small : (n : ℕ) → n < 65536 → bit_xor (bit_xor (bit_steps 16 (n / 256)) (bit_steps 8 (n % 256))) 0x9add_2096 ≡ after_number n
 unfolding after_number
-small t n e h =
-    let u = entry_at_lem t 1 (n / 256) e (lit< tt) (omega arith) in
-    let v = ap (λ (i : ℕ). get_or t i 0) (sym (zero-add (n % 256))) ∙ entry_at_lem t 0 (n % 256) e (lit< tt) (mod-lt n (lit< tt)) in
-    ap₂ bit_xor (ap₂ bit_xor u v) (sym behind_zeros)
+small n h =
+    ap (bit_xor (bit_xor (bit_steps 16 (n / 256)) (bit_steps 8 (n % 256)))) (sym behind_zeros)
     ∙ sym (two (crc_from 0xffff_ffff zeros) (n / 256) (n % 256))
     ∙ sym (crc_append 0xffff_ffff zeros (n / 256 ∷ n % 256 ∷ []))
     ∙ sym (ap (crc_from 0xffff_ffff) (spelled n h))

@@ -15,18 +15,20 @@ pub struct Limits {
 const GATES: u32 = 100;
 
 // The pair that belongs to the client: a gate's, or the booking system's.
+#[tactic(auto, unfolding(crate::specs::Limits::limits_of))]
 pub fn limits_of(client: u32) -> Limits
     ensures { result ≡ limits_of client }
 {
     if client < GATES {
-        return Limits {
+        Limits {
             bytes: 12,
             locks: 1,
-        };
-    }
-    Limits {
-        bytes: 28,
-        locks: 4,
+        }
+    } else {
+        Limits {
+            bytes: 28,
+            locks: 4,
+        }
     }
 }
 
@@ -34,8 +36,5 @@ pub fn limits_of(client: u32) -> Limits
 pub fn exceeds(limits: Limits, size: usize, locks: usize) -> bool
     ensures { result ≡ too_much limits size locks }
 {
-    if limits.bytes < size {
-        return true;
-    }
-    limits.locks < locks
+    limits.bytes < size || limits.locks < locks
 }

@@ -4,12 +4,6 @@
 ghost use Rattle.std.specs.Prelude.{◌≡◌, ◌+◌, ◌-◌, ◌≤◌, min, length, take};
 ghost use Rattle.octets.specs.Octets.{write_at};
 
-fn least(a: usize, b: usize) -> usize
-    ensures { result ≡ min a b }
-{
-    if a <= b { a } else { b }
-}
-
 // A piece behind the n bytes held of its line, as far as there is room: how many are held now.
 pub fn keep(held: &mut [u8], n: usize, piece: &[u8]) -> usize
     requires { n ≤ length held.old }
@@ -17,8 +11,7 @@ pub fn keep(held: &mut [u8], n: usize, piece: &[u8]) -> usize
     ensures value { result ≡ n + min (length piece.now) (length held.old - n) }
     ensures held_after { held.new ≡ write_at n (take (min (length piece.now) (length held.old - n)) piece.now) held.old }
 {
-    let k = least(piece.len(), held.len() - n);
-    let e = n + k;
-    octets::copy(&mut held[n..e], &piece[0..k]);
-    e
+    let k = piece.len().min(held.len() - n);
+    octets::put(held, n, &piece[..k]);
+    n + k
 }

@@ -7,14 +7,11 @@ use Prim.Native.Nat.{ℕ}
 use Rattle.fate.specs.declared.Fate.{Fate}
 use Rattle.cluster.specs.declared.Call.{Call}
 use Rattle.cluster.specs.declared.Call.TheVariants as call
-use Rattle.text.specs.declared.number.Number.{Number}
-use Rattle.text.specs.declared.number.Number.TheVariants.{Is, Unfit}
+use Rattle.std.specs.Prelude.{Option, Some, None}
 use Rattle.text.specs.Text.{field_of, number_of}
-use Rattle.lines.specs.declared.values.FateField.{FateField}
-use Rattle.lines.specs.declared.values.FateField.TheVariants as field
 use Rattle.lines.specs.Words.{cluster_word, take_word, prep_word, copy_word, open_word, send_word}
 use Rattle.lines.specs.Values.{fate_of}
-use Rattle.lines.specs.Forms.{Meaning, bad, asked, number, fate, number_at, fate_at, cluster_form, server_fate, server_replica_fate, copy_form, begins, from_send, from_open, from_copy, from_prepare, from_take, plain_form, data_of, locks_of}
+use Rattle.lines.specs.Forms.{Meaning, bad, asked, given, number_at, fate_at, cluster_form, server_fate, server_replica_fate, copy_form, begins, plain_form, data_of, locks_of}
 
 pub record Bare (m : Meaning) : Type 0 where
   pub content : data_of m ≡ []
@@ -30,20 +27,16 @@ either false m n p q = q
 no_more : (c : Call) → Bare (asked c [] [])
 no_more c = record { content = refl; locks = refl }
 
+when_given : {A : Type 0} (o : Option A) (k : A → Meaning) → ((x : A) → Bare (k x)) → Bare (given o k)
+when_given None k b = none
+when_given (Some x) k b = b x
+
 module _ (s : List ℕ) where
   with_number : (i : ℕ) (k : ℕ → Meaning) → ((v : ℕ) → Bare (k v)) → Bare (number_at i s k)
-  with_number i k b = go (number_of (field_of i s))
-    where
-      go : (n : Number) → Bare (number n k)
-      go Unfit = none
-      go (Is v) = b v
+  with_number i = when_given (number_of (field_of i s))
 
   with_fate : (i : ℕ) (k : Fate → Meaning) → ((f : Fate) → Bare (k f)) → Bare (fate_at i s k)
-  with_fate i k b = go (fate_of (number_of (field_of i s)))
-    where
-      go : (t : FateField) → Bare (fate t k)
-      go field.Unfit = none
-      go (field.Is f) = b f
+  with_fate i = when_given (fate_of (number_of (field_of i s)))
 
   cluster_bare : Bare (cluster_form s)
   unfolding cluster_form
@@ -60,7 +53,7 @@ module _ (s : List ℕ) where
   copy_bare = with_number 1 _ (λ v. with_number 2 _ (λ a. with_number 3 _ (λ b. with_fate 4 _ (λ f. no_more _))))
 
   pub plain_bare : Bare (plain_form s)
-  unfolding plain_form from_take from_prepare from_copy from_open from_send
+  unfolding plain_form
   plain_bare =
       either (begins s cluster_word 3) _ _ cluster_bare
       (either (begins s take_word 3) _ _ (one_bare call.Take)

@@ -6,6 +6,7 @@ use mathlib.Core.Bool.{true, false}
 use Prim.Native.Nat.{ℕ, ◌-◌, ◌/◌, ◌<◌, ◌≤◌}
 use lib.ListN.{length}
 use borrow.Author.Tests.{le-leb, lt-leb}
+use Rattle.std.specs.Prelude.{Option, Some, None}
 use Rattle.octets.specs.Octets.{write_at}
 use Rattle.cluster.specs.declared.Request.{Request}
 use Rattle.cluster.specs.declared.Call.TheVariants as call
@@ -22,26 +23,26 @@ use Rattle.lines.proofs.Numbers.{numbers_length}
 use Rattle.lines.proofs.Bare.{Bare}
 
 -- d₀ and l₀ are the buffers before, d and l after
-abbrev pub Gives : Meaning → Line → List ℕ → List ℕ → List ℕ → List ℕ → Type 0
+abbrev pub Gives : Meaning → Option Line → List ℕ → List ℕ → List ℕ → List ℕ → Type 0
 Gives m r d₀ d l₀ l = record {
   value : r ≡ line_of m;
   content_after : d ≡ write_at 0 (data_of m) d₀;
   locks_after : l ≡ write_at 0 (locks_of m) l₀;
 }
 
-pub gives_as : (m n : Meaning) (r : Line) (d₀ d l₀ l : List ℕ) → m ≡ n → Gives n r d₀ d l₀ l → Gives m r d₀ d l₀ l
+pub gives_as : (m n : Meaning) (r : Option Line) (d₀ d l₀ l : List ℕ) → m ≡ n → Gives n r d₀ d l₀ l → Gives m r d₀ d l₀ l
 gives_as m n r d₀ d l₀ l e g = rw e g
 
 -- no data and no locks: the buffers stay
-pub gives_bare : (m : Meaning) (r : Line) (d l : List ℕ) → Bare m → r ≡ line_of m → Gives m r d d l l
+pub gives_bare : (m : Meaning) (r : Option Line) (d l : List ℕ) → Bare m → r ≡ line_of m → Gives m r d d l l
 gives_bare m r d l b e = record {
   value = e;
   content_after = sym (ap (λ (x : List ℕ). write_at 0 x d) b.content ∙ write_none d 0);
   locks_after = sym (ap (λ (x : List ℕ). write_at 0 x l) b.locks ∙ write_none l 0);
 }
 
-pub gives_bad : (m : Meaning) (d l : List ℕ) → m ≡ bad → Gives m line.Bad d d l l
-gives_bad m d l e = gives_as m bad line.Bad d d l l e (gives_bare bad line.Bad d l (record { content = refl; locks = refl }) refl)
+pub gives_bad : (m : Meaning) (d l : List ℕ) → m ≡ bad → Gives m None d d l l
+gives_bad m d l e = gives_as m bad None d d l l e (gives_bare bad None d l (record { content = refl; locks = refl }) refl)
 
 -- ---- data and locks: f is the data field, t the fields of the locks, n the number of fields
 
@@ -57,11 +58,11 @@ module _ (s : List ℕ) (v : ℕ) (q : Request) (f : List ℕ) (p : f ≡ field_
     both_there k = rw (← p, ← o, ← c, h, k)
 
     pub gives_data : (d₀ d l₀ l : List ℕ) → all_numbers (n - 6) t ≡ true → d ≡ write_at 0 (bytes_of f) d₀ → l ≡ write_at 0 (numbers_of (n - 6) t) l₀
-        → Gives (data_then s v q) (line.Asked (call.Issue v q) (length f / 2) (n - 6)) d₀ d l₀ l
+        → Gives (data_then s v q) (Some (line.Asked (call.Issue v q) (length f / 2) (n - 6))) d₀ d l₀ l
     gives_data d₀ d l₀ l k x y =
         gives_as (data_then s v q) (asked (call.Issue v q) (bytes_of f) (numbers_of (n - 6) t)) _ d₀ d l₀ l (both_there k)
         (record {
-          value = ap₂ (λ (i j : ℕ). line.Asked (call.Issue v q) i j) (sym (bytes_length f)) (sym (numbers_length (n - 6) t));
+          value = ap₂ (λ (i j : ℕ). Some (line.Asked (call.Issue v q) i j)) (sym (bytes_length f)) (sym (numbers_length (n - 6) t));
           content_after = x;
           locks_after = y;
         })

@@ -2,26 +2,14 @@
 -- prep server replica fate; copy server a b fate; open server fate; issue server client-mark generation header data-hex and then
 -- each lock; send server replica fate."
 -- Assumes nothing.
-use Rattle.std.specs.Prelude.{◌≡◌, List, [], Bool, cond, ◌&&◌, ℕ, ◌-◌, eqb, leb, length}
+use Rattle.std.specs.Prelude.{◌≡◌, Option, Some, None, List, [], Bool, cond, ◌&&◌, ℕ, ◌-◌, eqb, leb, length}
 use Rattle.fate.specs.declared.Fate.{Fate}
 use Rattle.cluster.specs.declared.Request.{Request}
 use Rattle.cluster.specs.declared.Call.{Call}
 use Rattle.cluster.specs.declared.Call.TheVariants as call
-use Rattle.text.specs.declared.number.Number.{Number}
-use Rattle.text.specs.declared.number.Number.TheVariants.{Is, Unfit}
-use Rattle.text.specs.declared.number.Word.{Word}
-use Rattle.text.specs.declared.number.Word.TheVariants as word
 use Rattle.text.specs.Text.{after_of, field_of, field_count, number_of, word_of}
-use Rattle.lines.specs.declared.values.FateField.{FateField}
-use Rattle.lines.specs.declared.values.FateField.TheVariants as field
 use Rattle.lines.specs.declared.forms.Line.{Line}
 use Rattle.lines.specs.declared.forms.Line.TheVariants as line
-use Rattle.lines.specs.declared.forms.One.{One}
-use Rattle.lines.specs.declared.forms.One.TheVariants as one
-use Rattle.lines.specs.declared.forms.Two.{Two}
-use Rattle.lines.specs.declared.forms.Two.TheVariants as two
-use Rattle.lines.specs.declared.forms.Head.{Head}
-use Rattle.lines.specs.declared.forms.Head.TheVariants as head
 use Rattle.lines.specs.Words.{same, cluster_word, take_word, prep_word, copy_word, open_word, issue_word, send_word}
 use Rattle.hex_digits.specs.Hex.{is_hex, bytes_of}
 use Rattle.lines.specs.Values.{fate_of, all_numbers, numbers_of}
@@ -32,29 +20,21 @@ pub data Meaning : Type 0 where
   cluster : ℕ → ℕ → Meaning
   asked : Call → List ℕ → List ℕ → Meaning
 
--- ---- one field and what is made of its value: a field that has none makes the line bad
+-- ---- a part of a line and what is made of it: a line that has none is bad
+
+abbrev pub given : {A : Type 0} → Option A → (A → Meaning) → Meaning
+given None k = bad
+given (Some x) k = k x
 
 -- a number: "beyond its width, 32 bits for generation and header, else 64" is bad
-abbrev pub number : Number → (ℕ → Meaning) → Meaning
-number Unfit k = bad
-number (Is v) k = k v
-
-abbrev pub short : Word → (ℕ → Meaning) → Meaning
-short word.Unfit k = bad
-short (word.Is v) k = k v
-
-abbrev pub fate : FateField → (Fate → Meaning) → Meaning
-fate field.Unfit k = bad
-fate (field.Is f) k = k f
-
 abbrev pub number_at : ℕ → List ℕ → (ℕ → Meaning) → Meaning
-number_at i s k = number (number_of (field_of i s)) k
+number_at i s k = given (number_of (field_of i s)) k
 
 abbrev pub short_at : ℕ → List ℕ → (ℕ → Meaning) → Meaning
-short_at i s k = short (word_of (number_of (field_of i s))) k
+short_at i s k = given (word_of (number_of (field_of i s))) k
 
 abbrev pub fate_at : ℕ → List ℕ → (Fate → Meaning) → Meaning
-fate_at i s k = fate (fate_of (number_of (field_of i s))) k
+fate_at i s k = given (fate_of (number_of (field_of i s))) k
 
 -- ---- the forms, behind their words
 
@@ -98,27 +78,19 @@ issue_form s = request_then s (data_then s)
 abbrev pub begins : List ℕ → List ℕ → ℕ → Bool
 begins s w n = same (field_of 0 s) w && eqb (field_count s) n
 
--- the forms that have their number of fields, in links: a line that does not begin as one asks may be of the next
+-- a line that does not begin as one form asks may be of the next
 abbrev pub tried : List ℕ → List ℕ → ℕ → Meaning → Meaning → Meaning
 tried s w n form next = cond (begins s w n) form next
 
-unfoldable pub from_send : List ℕ → Meaning
-from_send s = tried s send_word 4 (server_replica_fate s call.Send) bad
-
-unfoldable pub from_open : List ℕ → Meaning
-from_open s = tried s open_word 3 (server_fate s call.Open) (from_send s)
-
-unfoldable pub from_copy : List ℕ → Meaning
-from_copy s = tried s copy_word 5 (copy_form s) (from_open s)
-
-unfoldable pub from_prepare : List ℕ → Meaning
-from_prepare s = tried s prep_word 4 (server_replica_fate s call.Prepare) (from_copy s)
-
-unfoldable pub from_take : List ℕ → Meaning
-from_take s = tried s take_word 3 (server_fate s call.Take) (from_prepare s)
-
+-- the forms that have their number of fields
 unfoldable pub plain_form : List ℕ → Meaning
-plain_form s = tried s cluster_word 3 (cluster_form s) (from_take s)
+plain_form s =
+    tried s cluster_word 3 (cluster_form s)
+    (tried s take_word 3 (server_fate s call.Take)
+    (tried s prep_word 4 (server_replica_fate s call.Prepare)
+    (tried s copy_word 5 (copy_form s)
+    (tried s open_word 3 (server_fate s call.Open)
+    (tried s send_word 4 (server_replica_fate s call.Send) bad)))))
 
 -- issue has six fields, and then each lock
 unfoldable pub form_of : List ℕ → Meaning
@@ -131,12 +103,12 @@ line_limit = 500
 unfoldable pub meaning_of : List ℕ → Meaning
 meaning_of s = cond (leb (length s) line_limit) (form_of s) bad
 
--- ---- a meaning as the code gives it: an enum, and beside it data and locks at the start of two buffers
+-- ---- a meaning as the code gives it: what is asked, and beside it data and locks at the start of two buffers
 
-abbrev pub line_of : Meaning → Line
-line_of bad = line.Bad
-line_of (cluster r n) = line.Cluster r n
-line_of (asked c d l) = line.Asked c (length d) (length l)
+abbrev pub line_of : Meaning → Option Line
+line_of bad = None
+line_of (cluster r n) = Some (line.Cluster r n)
+line_of (asked c d l) = Some (line.Asked c (length d) (length l))
 
 abbrev pub data_of : Meaning → List ℕ
 data_of bad = []
@@ -148,21 +120,18 @@ locks_of bad = []
 locks_of (cluster r n) = []
 locks_of (asked c d l) = l
 
--- the first field of a line and the number of its fields, as they are handed from link to link
+-- the first field of a line and the number of its fields
 pub record Split (s w : List ℕ) (n : ℕ) : Type 0 where
   pub word : w ≡ field_of 0 s
   pub count : n ≡ field_count s
 
 -- ---- and the parts of a line that several forms share, as the code gives them
 
-abbrev pub one_then : One → (ℕ → Fate → Call) → Meaning
-one_then one.Unfit c = bad
-one_then (one.Are v f) c = asked (c v f) [] []
+abbrev pub one_then : Option (ℕ × Fate) → (ℕ → Fate → Call) → Meaning
+one_then o c = given o (λ p. asked (c p.0 p.1) [] [])
 
-abbrev pub two_then : Two → (ℕ → ℕ → Fate → Call) → Meaning
-two_then two.Unfit c = bad
-two_then (two.Are v i f) c = asked (c v i f) [] []
+abbrev pub two_then : Option (ℕ × ℕ × Fate) → (ℕ → ℕ → Fate → Call) → Meaning
+two_then o c = given o (λ p. asked (c p.0 p.1 p.2) [] [])
 
-abbrev pub head_then : Head → (ℕ → Request → Meaning) → Meaning
-head_then head.Unfit k = bad
-head_then (head.Is v q) k = k v q
+abbrev pub head_then : Option (ℕ × Request) → (ℕ → Request → Meaning) → Meaning
+head_then o k = given o (λ p. k p.0 p.1)

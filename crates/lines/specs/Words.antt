@@ -1,13 +1,11 @@
 -- The words of lines, as bytes of ASCII.
 -- Assumes nothing.
-use Rattle.std.specs.Prelude.{List, [], ◌∷◌, Bool, true, false, ◌&&◌, ℕ, eqb}
+use Rattle.std.specs.Prelude.{List, [], ◌∷◌, Bool, ℕ, nat_eq}
+use Rattle.std.specs.Cmp.Lexicographic.{pointwise}
 
 -- two texts are the same
-unfoldable pub same : List ℕ → List ℕ → Bool
-same [] [] = true
-same [] (b ∷ t) = false
-same (a ∷ s) [] = false
-same (a ∷ s) (b ∷ t) = eqb a b && same s t
+abbrev pub same : List ℕ → List ℕ → Bool
+same s t = pointwise nat_eq s t
 
 -- "cluster"
 abbrev pub cluster_word : List ℕ

@@ -11,8 +11,10 @@ use mathlib.Core.List.{List, [], ◌∷◌, ◌++◌, Memᴰ}
 use Prim.Native.Nat.{ℕ, ◌≤◌, ◌<◌}
 use native.Mathlib.Omega.{arith}
 use borrow.Author.Tests.{ltb-true, ltb-false, lt-ltb, le-ltb}
-use Rattle.locks.specs.declared.LockTest.TheVariants.{Free, Held}
-use Rattle.locks.specs.Locks.{estimate_of, conflict, first_held}
+use Rattle.std.specs.Prelude.{Some, None}
+use Rattle.std.proofs.lemmas.Option.{same_Some}
+use Rattle.locks.specs.declared.HeldLock.{HeldLock}
+use Rattle.locks.specs.Locks.{estimate_of, conflict, held_lock, first_held}
 
 -- ---- the statements
 
@@ -30,10 +32,10 @@ pub record FirstAbove (table ks : List ℕ) (client k e : ℕ) : Type 0 where
   pub above : client < e
 
 abbrev pub GrantedExactly : Type 0
-GrantedExactly = (table ks : List ℕ) (client : ℕ) → (first_held table ks client ≡ Free) ↔ NoneAbove table ks client
+GrantedExactly = (table ks : List ℕ) (client : ℕ) → (first_held table ks client ≡ None) ↔ NoneAbove table ks client
 
 abbrev pub HeldExactly : Type 0
-HeldExactly = (table ks : List ℕ) (client k e : ℕ) → (first_held table ks client ≡ Held k e) ↔ FirstAbove table ks client k e
+HeldExactly = (table ks : List ℕ) (client k e : ℕ) → (first_held table ks client ≡ Some (held_lock k e)) ↔ FirstAbove table ks client k e
 
 -- ---- their proofs
 
@@ -45,7 +47,7 @@ no_conflict_above : (estimate client : ℕ) → (conflict estimate client ≡ fa
 no_conflict_above estimate client = (ltb-false client estimate, le-ltb client estimate)
 
 module _ (table : List ℕ) (client : ℕ) where
-  passes : (ks : List ℕ) → first_held table ks client ≡ Free → NoneAbove table ks client
+  passes : (ks : List ℕ) → first_held table ks client ≡ None → NoneAbove table ks client
   unfolding first_held
   passes [] f k m = absurd (Memᴰ.not-nil m)
   passes (h ∷ ks) f k m = go (conflict (estimate_of table h) client) refl (passes ks)
@@ -53,17 +55,17 @@ module _ (table : List ℕ) (client : ℕ) where
       go :
           (b : Bool)
           → conflict (estimate_of table h) client ≡ b
-          → (first_held table ks client ≡ Free → NoneAbove table ks client)
+          → (first_held table ks client ≡ None → NoneAbove table ks client)
           → estimate_of table k ≤ client
       go true c more = absurd (let g = rw c at f in let w : ◌≡◌ {A = ℕ} 0 1 = cc in omega arith)
       go false c more = ⊎_elim (λ (q : k ≡ h). rw q ((no_conflict_above (estimate_of table h) client).0 c)) (more (rw c at f) k) (Memᴰ.cases_cons m)
 
-  grants : (ks : List ℕ) → NoneAbove table ks client → first_held table ks client ≡ Free
+  grants : (ks : List ℕ) → NoneAbove table ks client → first_held table ks client ≡ None
   unfolding first_held
   grants [] n = refl
   grants (h ∷ ks) n = rw ((no_conflict_above (estimate_of table h) client).1 (n h (Memᴰ.head refl))) (grants ks (λ k m. n k (Memᴰ.tail m)))
 
-  refuses : (ks : List ℕ) (k e : ℕ) → first_held table ks client ≡ Held k e → FirstAbove table ks client k e
+  refuses : (ks : List ℕ) (k e : ℕ) → first_held table ks client ≡ Some (held_lock k e) → FirstAbove table ks client k e
   unfolding first_held
   refuses [] k e f = absurd (let w : ◌≡◌ {A = ℕ} 0 1 = cc in omega arith)
   refuses (h ∷ ks) k e f = go (conflict (estimate_of table h) client) refl (refuses ks k e)
@@ -71,12 +73,12 @@ module _ (table : List ℕ) (client : ℕ) where
       go :
           (b : Bool)
           → conflict (estimate_of table h) client ≡ b
-          → (first_held table ks client ≡ Held k e → FirstAbove table ks client k e)
+          → (first_held table ks client ≡ Some (held_lock k e) → FirstAbove table ks client k e)
           → FirstAbove table (h ∷ ks) client k e
       go true c more =
           let g = rw c at f in
-          let lock : h ≡ k = cc in
-          let estimate : estimate_of table h ≡ e = cc in
+          let lock : h ≡ k = ap (λ (x : HeldLock). x.lock) (same_Some _ _ g) in
+          let estimate : estimate_of table h ≡ e = ap (λ (x : HeldLock). x.estimate) (same_Some _ _ g) in
           record {
             before = [];
             behind = ks;
@@ -100,7 +102,7 @@ module _ (table : List ℕ) (client : ℕ) where
       (before behind : List ℕ) (k : ℕ)
       → NoneAbove table before client
       → client < estimate_of table k
-      → first_held table (before ++ (k ∷ behind)) client ≡ Held k (estimate_of table k)
+      → first_held table (before ++ (k ∷ behind)) client ≡ Some (held_lock k (estimate_of table k))
   unfolding first_held
   finds [] behind k n l = rw ((conflict_above (estimate_of table k) client).1 l)
   finds (h ∷ before) behind k n l =

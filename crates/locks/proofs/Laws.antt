@@ -7,21 +7,21 @@ use Prim.Native.Nat.{ℕ, ◌+◌, ◌≤◌, ◌<◌}
 use native.Mathlib.Numerals.{add-one}
 use lib.ListN.{length, get_or, drop, length-set, drop_of_length-le}
 use lib.Seq.{drop-cons}
-use Rattle.locks.specs.declared.LockTest.{LockTest}
-use Rattle.locks.specs.declared.LockTest.TheVariants.{Free, Held}
-use Rattle.locks.specs.Locks.{estimate_of, marked_at, marked_all, conflict, first_held}
+use Rattle.std.specs.Prelude.{Option, Some, None}
+use Rattle.locks.specs.declared.HeldLock.{HeldLock}
+use Rattle.locks.specs.Locks.{estimate_of, marked_at, marked_all, conflict, held_lock, first_held}
 
 drop_next : (ks : List ℕ) (i : ℕ) → i < length ks → drop i ks ≡ get_or ks i 0 ∷ drop (i + 1) ks
 drop_next ks i l = rw (add-one, drop-cons ks i 0)
 
 -- the search for the first lock that refuses: w is the result, and the locks below i have been passed
-module _ (table ks : List ℕ) (client i : ℕ) (w : LockTest) (inv : w ≡ first_held table (drop i ks) client) where
-  pub held_end : length ks ≤ i → Free ≡ w
+module _ (table ks : List ℕ) (client i : ℕ) (w : Option HeldLock) (inv : w ≡ first_held table (drop i ks) client) where
+  pub held_end : length ks ≤ i → None ≡ w
   unfolding first_held
   held_end l = sym (inv ∙ ap (λ (x : List ℕ). first_held table x client) (drop_of_length-le ks l))
 
   module _ (l : i < length ks) (e : ℕ) (b : Bool) (ee : e ≡ estimate_of table (get_or ks i 0)) (eb : b ≡ conflict e client) where
-    pub held_here : b ≡ true → Held (get_or ks i 0) e ≡ w
+    pub held_here : b ≡ true → Some (held_lock (get_or ks i 0) e) ≡ w
     unfolding first_held
     held_here t = rw (inv, drop_next ks i l, ← ee, ← eb, t)
 

@@ -13,7 +13,7 @@ use native.Mathlib.Omega.{arith}
 use lib.ListN.{length, get_or, set, replicate, length-set, length-replicate, get_or-replicate}
 use lib.Seq.{get_or-set_same}
 use Rattle.base.proofs.Tests.{lt_or_le}
-use Rattle.locks.specs.declared.LockTest.TheVariants.{Free}
+use Rattle.std.specs.Prelude.{None}
 use Rattle.locks.specs.Locks.{place_of, estimate_of, marked_at, marked_all, first_held}
 use Rattle.locks.proofs.Laws.{length_marked, length_marked_all}
 use Rattle.locks.proofs.Conflicts.{granted_exactly}
@@ -47,7 +47,7 @@ pub record Wrote (gs : List Granted) (k id : ℕ) : Type 0 where
 pub record Sound (table : List ℕ) (start : ℕ) (gs : List Granted) : Type 0 where
   pub from_start : (k : ℕ) → start ≤ estimate_of table k
   pub from_writers : (k id : ℕ) → Wrote gs k id → id ≤ estimate_of table k
-  pub granted_knows : (ks : List ℕ) (client : ℕ) → first_held table ks client ≡ Free → (k id : ℕ) → Memᴰ k ks → Wrote gs k id → id ≤ client
+  pub granted_knows : (ks : List ℕ) (client : ℕ) → first_held table ks client ≡ None → (k id : ℕ) → Memᴰ k ks → Wrote gs k id → id ≤ client
 
 abbrev pub Statement : Type 0
 Statement = (start : ℕ) (gs : List Granted) → Rising start gs → Sound (after_all (replicate 1024 start) gs) start gs

@@ -1,9 +1,8 @@
 -- Locks (document 01, "issue" and refusal 15; document 02, No. 2): a lock's places in a server's table of marks, its estimate, which locks refuse a request,
 -- and what a granted request writes.
 -- Assumes nothing.
-use Rattle.std.specs.Prelude.{ℕ, ◌*◌, ◌%◌, ◌/◌, ◌^◌, min, Bool, cond, List, [], ◌∷◌, get_or, set, ltb}
-use Rattle.locks.specs.declared.LockTest.{LockTest}
-use Rattle.locks.specs.declared.LockTest.TheVariants.{Free, Held}
+use Rattle.std.specs.Prelude.{ℕ, ◌*◌, ◌%◌, ◌/◌, ◌^◌, min, Bool, cond, List, [], ◌∷◌, get_or, set, ltb, Option, Some, None}
+use Rattle.locks.specs.declared.HeldLock.{HeldLock}
 
 -- "c = hex 9E3779B97F4A7C15, BF58476D1CE4E5B9, 94D049BB133111EB"
 abbrev pub factors : List ℕ
@@ -32,8 +31,12 @@ marked_all table (k ∷ ks) id = marked_all (marked_at table k id) ks id
 abbrev pub conflict : ℕ → ℕ → Bool
 conflict estimate client = ltb client estimate
 
+-- a lock with an estimate
+abbrev pub held_lock : ℕ → ℕ → HeldLock
+held_lock k e = record { lock = k; estimate = e }
+
 -- "the first such lock and its estimate are given"
-unfoldable pub first_held : List ℕ → List ℕ → ℕ → LockTest
-first_held table [] client = Free
+unfoldable pub first_held : List ℕ → List ℕ → ℕ → Option HeldLock
+first_held table [] client = None
 first_held table (k ∷ ks) client =
-    cond (conflict (estimate_of table k) client) (Held k (estimate_of table k)) (first_held table ks client)
+    cond (conflict (estimate_of table k) client) (Some (held_lock k (estimate_of table k))) (first_held table ks client)

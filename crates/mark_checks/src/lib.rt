@@ -6,15 +6,13 @@ ghost use Rattle.cluster.specs.Refusals.{closing_fits, entries_fit, server_fits,
 ghost use Rattle.mark_checks.specs.Below.{below_fits};
 
 use cluster::{Closing, Entry, Records, Server, Shape};
-use conditions::{both, either};
 
 fn closing_fits(c: Closing, n: u64) -> bool
     ensures { result ≡ closing_fits c n }
 {
     match c {
-        Closing::Unresolved => true,
         Closing::Mark(m) => m <= n,
-        Closing::Restored => true,
+        Closing::Unresolved | Closing::Restored => true,
     }
 }
 
@@ -26,9 +24,7 @@ fn entries_fit(entries: [Entry; 7], shape: Shape) -> bool
     let mut ok = true;
     let r = shape.replicas as usize;
     for i in 0..7 {
-        let e = entries[i];
-        let c = e.closing;
-        ok = both(ok, either(r <= i, closing_fits(c, shape.places)));
+        ok &= r <= i || closing_fits(entries[i].closing, shape.places);
     }
     ok
 }
@@ -40,7 +36,7 @@ fn marks_fit(marks: [u64; 7], shape: Shape) -> bool
     let mut ok = true;
     let r = shape.replicas as usize;
     for i in 0..7 {
-        ok = both(ok, either(r <= i, marks[i] <= shape.places));
+        ok &= r <= i || marks[i] <= shape.places;
     }
     ok
 }
@@ -49,11 +45,12 @@ fn server_fits(s: Server, shape: Shape) -> bool
     requires { shape.replicas ≤ 7 }
     ensures { result ≡ server_fits shape s }
 {
-    let entries = s.entries;
-    let marks = s.marks;
     let n = shape.places;
-    let a = both(entries_fit(entries, shape), marks_fit(marks, shape));
-    both(both(both(a, s.start <= n), s.issued <= n), s.acked <= n)
+    entries_fit(s.entries, shape)
+        && marks_fit(s.marks, shape)
+        && s.start <= n
+        && s.issued <= n
+        && s.acked <= n
 }
 
 // 2: a mark in the register or a server record is above N. The servers are named one by one, for the same reason.
@@ -61,14 +58,10 @@ pub fn mark_above(records: Records, shape: Shape) -> bool
     requires { shape.replicas ≤ 7 }
     ensures { result ≡ mark_above shape records }
 {
-    let register = records.register;
-    let entries = register.entries;
-    let a = records.servers[0];
-    let b = records.servers[1];
-    let c = records.servers[2];
-    let d = records.servers[3];
-    let two = both(server_fits(a, shape), server_fits(b, shape));
-    let three = both(two, server_fits(c, shape));
-    let four = both(three, server_fits(d, shape));
-    !both(entries_fit(entries, shape), four)
+    let [a, b, c, d] = records.servers;
+    let fit = server_fits(a, shape)
+        && server_fits(b, shape)
+        && server_fits(c, shape)
+        && server_fits(d, shape);
+    !(entries_fit(records.register.entries, shape) && fit)
 }

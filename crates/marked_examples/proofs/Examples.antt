@@ -10,19 +10,18 @@ use lib.Dec.{eqb}
 use borrow.Author.Tests.{eqb-true}
 use Rattle.base.specs.Below.{count, highest}
 use Rattle.base.proofs.Tests.{both}
-use Rattle.quorum.specs.declared.Vote.{Vote}
-use Rattle.quorum.specs.declared.Vote.TheVariants.{Undecided, Decided}
+use Rattle.std.specs.Prelude.{Option, Some, None}
 use Rattle.quorum.specs.Vote.{backed, majority_mark, decided, vote_of}
 use Rattle.locks.specs.Locks.{place_of, estimate_of, first_held}
 use Rattle.limits.specs.Limits.{limits_of}
 use Rattle.cluster.specs.Refusals.{Verdict, pass, declined, first_of}
 use Rattle.marked_examples.specs.Examples.{Example, vote, places, request, table, vote_in, places_of, request_on, Says}
 
-same_vote : Vote → Vote → Bool
-same_vote Undecided Undecided = true
-same_vote Undecided (Decided d) = false
-same_vote (Decided c) Undecided = false
-same_vote (Decided c) (Decided d) = eqb c d
+same_vote : Option ℕ → Option ℕ → Bool
+same_vote None None = true
+same_vote None (Some d) = false
+same_vote (Some c) None = false
+same_vote (Some c) (Some d) = eqb c d
 
 same_list : List ℕ → List ℕ → Bool
 same_list [] [] = true
@@ -45,12 +44,12 @@ every : List Example → Bool
 every [] = true
 every (x ∷ xs) = holds x && every xs
 
-same_vote_lem : (v w : Vote) → same_vote v w ≡ true → v ≡ w
+same_vote_lem : (v w : Option ℕ) → same_vote v w ≡ true → v ≡ w
 unfolding same_vote
-same_vote_lem Undecided Undecided e = refl
-same_vote_lem Undecided (Decided d) e = absurd (false≢true e)
-same_vote_lem (Decided c) Undecided e = absurd (false≢true e)
-same_vote_lem (Decided c) (Decided d) e = ap Decided (eqb-true c d e)
+same_vote_lem None None e = refl
+same_vote_lem None (Some d) e = absurd (false≢true e)
+same_vote_lem (Some c) None e = absurd (false≢true e)
+same_vote_lem (Some c) (Some d) e = ap Some (eqb-true c d e)
 
 same_list_lem : (xs ys : List ℕ) → same_list xs ys ≡ true → xs ≡ ys
 unfolding same_list

@@ -1,10 +1,7 @@
 -- Document 01, "Marked examples of the definitions": a to j, as one table, with i as document 02 has it. `Says` is what a row of it says of the
 -- definitions.
 -- Assumes nothing.
-use Rattle.std.specs.Prelude.{◌≡◌, Bool, true, false, List, [], ◌∷◌, map, ℕ, length, get_or, replicate}
-use Rattle.std.proofs.Math.Option.{Option, some, none}
-use Rattle.quorum.specs.declared.Vote.{Vote}
-use Rattle.quorum.specs.declared.Vote.TheVariants.{Undecided, Decided}
+use Rattle.std.specs.Prelude.{◌≡◌, Bool, true, false, List, [], ◌∷◌, map, ℕ, length, get_or, replicate, Option, Some, None}
 use Rattle.quorum.specs.Vote.{vote_of}
 use Rattle.locks.specs.Locks.{place_of}
 use Rattle.cluster.specs.declared.Phase.TheVariants.{Open}
@@ -15,8 +12,8 @@ use Rattle.limits.specs.Limits.{limits_of}
 use Rattle.cluster.specs.Refusals.{request_rows, Verdict, pass, first_of}
 
 pub data Example : Type 0 where
-  -- the replicas' marks, `none` for an absent one, and the vote
-  vote : List (Option ℕ) → Vote → Example
+  -- the replicas' marks, `None` for an absent one, and the vote: the mark, `None` where it is undecided
+  vote : List (Option ℕ) → Option ℕ → Example
   -- a lock, and its three places
   places : ℕ → List ℕ → Example
   -- a request's one lock, the table's entries, all alike, the client's mark, and what issue's own list makes of it
@@ -25,17 +22,17 @@ pub data Example : Type 0 where
 abbrev pub table : List Example
 table =
     -- a "Marks 7, 9, 5: mark 7."
-    vote (some 7 ∷ some 9 ∷ some 5 ∷ []) (Decided 7)
+    vote (Some 7 ∷ Some 9 ∷ Some 5 ∷ []) (Some 7)
     -- b "7, absent, 5: undecided."
-    ∷ vote (some 7 ∷ none ∷ some 5 ∷ []) Undecided
+    ∷ vote (Some 7 ∷ None ∷ Some 5 ∷ []) None
     -- c "7, absent, 7: mark 7."
-    ∷ vote (some 7 ∷ none ∷ some 7 ∷ []) (Decided 7)
+    ∷ vote (Some 7 ∷ None ∷ Some 7 ∷ []) (Some 7)
     -- d "R = 1, mark 0: mark 0."
-    ∷ vote (some 0 ∷ []) (Decided 0)
+    ∷ vote (Some 0 ∷ []) (Some 0)
     -- e "4, 4, absent, absent, absent: undecided."
-    ∷ vote (some 4 ∷ some 4 ∷ none ∷ none ∷ none ∷ []) Undecided
+    ∷ vote (Some 4 ∷ Some 4 ∷ None ∷ None ∷ None ∷ []) None
     -- f "4, 4, 4, absent, absent: mark 4."
-    ∷ vote (some 4 ∷ some 4 ∷ some 4 ∷ none ∷ none ∷ []) (Decided 4)
+    ∷ vote (Some 4 ∷ Some 4 ∷ Some 4 ∷ None ∷ None ∷ []) (Some 4)
     -- g "Lock 1: places 632, 765, 595."
     ∷ places 1 (632 ∷ 765 ∷ 595 ∷ [])
     -- h "Lock 0: 0, 0, 0."
@@ -49,15 +46,15 @@ table =
 -- what an example says of the definitions
 
 abbrev pub known : Option ℕ → Bool
-known none = false
-known (some m) = true
+known None = false
+known (Some m) = true
 
 abbrev pub mark_of : Option ℕ → ℕ
-mark_of none = 0
-mark_of (some m) = m
+mark_of None = 0
+mark_of (Some m) = m
 
-abbrev pub vote_in : List (Option ℕ) → Vote
-vote_in marks = vote_of (λ i. known (get_or marks i none)) (λ i. mark_of (get_or marks i none)) (length marks)
+abbrev pub vote_in : List (Option ℕ) → Option ℕ
+vote_in marks = vote_of (λ i. known (get_or marks i None)) (λ i. mark_of (get_or marks i None)) (length marks)
 
 abbrev pub places_of : ℕ → List ℕ
 places_of k = map (place_of k) (0 ∷ 1 ∷ 2 ∷ [])

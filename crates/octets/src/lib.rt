@@ -9,21 +9,13 @@ pub fn copy(dst: &mut [u8], src: &[u8])
     requires { length dst.old ≡ length src.now }
     ensures { dst.new ≡ src.now }
 {
-    let mut i = 0;
-    while i < src.len() {
-        dst[i] = src[i];
-        i += 1;
-    }
+    dst.copy_from_slice(src);
 }
 
 pub fn clear(dst: &mut [u8])
     ensures { dst.new ≡ replicate (length dst.old) 0 }
 {
-    let mut i = 0;
-    while i < dst.len() {
-        dst[i] = 0;
-        i += 1;
-    }
+    dst.fill(0);
 }
 
 // The bytes of src at an offset.
@@ -31,8 +23,7 @@ pub fn put(m: &mut [u8], at: usize, src: &[u8])
     requires { at + length src.now ≤ length m.old }
     ensures { m.new ≡ write_at at src.now m.old }
 {
-    let e = at + src.len();
-    copy(&mut m[at..e], src);
+    m[at..at + src.len()].copy_from_slice(src);
 }
 
 // The number that at most eight bytes stand for, byte by byte.
@@ -41,10 +32,8 @@ fn byte_by_byte(s: &[u8]) -> u64
     ensures { (result ≡ be_of s.now) × (result < 256 ^ length s.now) }
 {
     let mut v: u64 = 0;
-    let mut i = 0;
-    while i < s.len() {
-        v = v * 256 + s[i] as u64;
-        i += 1;
+    for b in s {
+        v = v * 256 + u64::from(*b);
     }
     v
 }
@@ -60,16 +49,15 @@ pub fn get_be(s: &[u8]) -> u64
     byte_by_byte(s)
 }
 
-// The low bytes of v, as many as the slice has.
+// The low bytes of v, as many as the slice has. By index: tried over `iter_mut().rev()`, and the proof did not close, since no law of std's ties what such
+// a loop writes to the slice.
 pub fn set_be(dst: &mut [u8], v: u64)
     ensures { dst.new ≡ be_bytes (length dst.old) v }
 {
     let mut x = v;
-    let mut i = dst.len();
-    while 0 < i {
-        i -= 1;
+    for i in (0..dst.len()).rev() {
         dst[i] = (x % 256) as u8;
-        x = x / 256;
+        x /= 256;
     }
 }
 
@@ -78,14 +66,7 @@ pub fn put_be(m: &mut [u8], at: usize, k: usize, v: u64)
     requires { at + k ≤ length m.old }
     ensures { m.new ≡ write_at at (be_bytes k v) m.old }
 {
-    let e = at + k;
-    set_be(&mut m[at..e], v);
-}
-
-fn also_zero(ok: bool, b: u8) -> bool
-    ensures { result ≡ (ok && eqb b 0) }
-{
-    if ok { b == 0 } else { false }
+    set_be(&mut m[at..at + k], v);
 }
 
 // Every byte is looked at, also behind one that isn't zero: without a way out of the loop the compiler tests many bytes at once.
@@ -93,10 +74,8 @@ pub fn all_zero(s: &[u8]) -> bool
     ensures { result ≡ all_zero s.now }
 {
     let mut ok = true;
-    let mut i = 0;
-    while i < s.len() {
-        ok = also_zero(ok, s[i]);
-        i += 1;
+    for b in s {
+        ok &= *b == 0;
     }
     ok
 }

@@ -2,7 +2,6 @@
 #![tactic(auto)]
 
 ghost use Rattle.std.specs.Prelude.{◌≡◌, ◌≤◌, length};
-ghost use Rattle.crc32.specs.Tables.{tables_of};
 ghost use Rattle.storage.specs.Sizes.{place_size, data_limit};
 ghost use Rattle.storage.specs.Places.{size_as};
 ghost use Rattle.old_places.specs.Old.{old_layout, old_place_size, old_fields, old_valid, renewed};
@@ -25,8 +24,8 @@ const CHECKED: usize = DATA_AT + DATA_LIMIT;
 pub const OLD_PLACE: usize = CHECKED + CHECK;
 
 // Whether s is valid as place n. The check comes last, since it takes longest.
+// Beside place_reader's: another layout, read only. The sequence has another width, and no zeros stand before the check.
 pub fn valid(t: &Tables, s: &[u8], n: u64) -> bool
-    requires t_value { t.now ≡ tables_of }
     requires s_len { length s.now ≡ old_place_size }
     ensures { result ≡ old_valid n s.now }
 {
@@ -38,20 +37,17 @@ pub fn valid(t: &Tables, s: &[u8], n: u64) -> bool
         return false;
     }
     let k = DATA_AT + size as usize;
-    if !octets::all_zero(&s[k..CHECKED]) {
-        return false;
-    }
-    crc32::check(t, s, CHECKED)
+    octets::all_zero(&s[k..CHECKED]) && crc32::check(t, s, CHECKED)
 }
 
 // The numbers that a record holds.
+// Beside place_reader's: another layout, whose sequence has another width.
 fn decode(s: &[u8]) -> Fields
     requires { length s.now ≡ old_place_size }
     ensures { result ≡ old_fields s.now }
 {
-    let id = octets::get_be(&s[ID_AT..CLIENT_AT]);
     Fields {
-        id: id,
+        id: octets::get_be(&s[ID_AT..CLIENT_AT]),
         client: place_reader::number(s, CLIENT_AT),
         generation: place_reader::number(s, GENERATION_AT),
         partition: place_reader::number(s, PARTITION_AT),
@@ -62,7 +58,6 @@ fn decode(s: &[u8]) -> Fields
 
 // The record of s in the new layout.
 pub fn renew(t: &Tables, out: &mut [u8], s: &[u8])
-    requires t_value { t.now ≡ tables_of }
     requires out_len { length out.old ≡ place_size }
     requires s_len { length s.now ≡ old_place_size }
     requires s_bound { size_as old_layout s.now ≤ data_limit }

@@ -1,12 +1,12 @@
 // What open does, once its vote is counted: to the register, the server's record and its lock table.
 #![tactic(auto)]
 
-ghost use Rattle.std.specs.Prelude.{◌≡◌, ◌&&◌, not, false, cond, List, ℕ, ◌<◌, ◌≤◌, length, replicate};
+ghost use Rattle.std.specs.Prelude.{◌≡◌, ◌&&◌, not, cond, List, ℕ, ◌<◌, length, replicate};
 ghost use Rattle.base.specs.Below.{up_to};
 ghost use Rattle.quorum.specs.Vote.{flags_of};
 ghost use Rattle.cluster.specs.declared.Records.{Records};
 ghost use Rattle.cluster.specs.State.{server_at, entry_at};
-ghost use Rattle.cluster.specs.Refusals.{clean_at, session_differs};
+ghost use Rattle.cluster.specs.Refusals.{session_differs};
 ghost use Rattle.cluster.specs.Effects.{arrives, entry_after, opened_register, opened_server, open_effect};
 ghost use Rattle.checks.specs.Results.{state_of, result_of};
 ghost use Rattle.register_message.specs.Settled.{settled};
@@ -17,22 +17,16 @@ use cluster::{Answer, Closing, Entry, Phase, Register, Server, TABLE};
 use fate::Fate;
 use register_message::{Registered, does_arrive, is_answered};
 
-// The recorded mark of a replica after open: the members' is the mark, any other 0.
-fn mark_after(clean: bool, d: u64) -> u64
-    ensures { result ≡ cond clean d 0 }
+// The recorded marks after open: the members' is the ballot's mark, any other 0.
+// A mark is of another array at its index, up to R: zip and iter_mut are no plainer.
+fn marks_after(b: &Ballot) -> [u64; 7]
+    ensures { result ≡ up_to (λ i. cond (flags_of b.now.clean i) b.now.mark 0) (replicate 7 0) b.now.replicas }
 {
-    if clean { d } else { 0 }
-}
-
-fn marks_after(clean: [bool; 7], d: u64, r: usize) -> [u64; 7]
-    requires { r ≤ 7 }
-    ensures { result ≡ up_to (λ i. cond (flags_of clean i) d 0) (replicate 7 0) r }
-{
-    let mut out = [0; 7];
-    for i in 0..r {
-        out[i] = mark_after(clean[i], d);
+    let mut marks = [0; 7];
+    for i in 0..b.replicas {
+        marks[i] = if b.clean[i] { b.mark } else { 0 };
     }
-    out
+    marks
 }
 
 // The register's entry of a replica after open. One that stays is made anew, which is faster than a copy of an enum with its unused bytes.
@@ -41,108 +35,73 @@ fn entry_after(e: Entry, clean: bool, session: u64, d: u64) -> Entry
 {
     if clean {
         return Entry {
-            session: session,
+            session,
             closing: Closing::Unresolved,
         };
     }
-    let c = e.closing;
-    match c {
-        Closing::Unresolved => Entry {
-            session: e.session,
-            closing: Closing::Mark(d),
-        },
-        Closing::Mark(m) => Entry {
-            session: e.session,
-            closing: Closing::Mark(m),
-        },
-        Closing::Restored => Entry {
-            session: e.session,
-            closing: Closing::Restored,
+    Entry {
+        session: e.session,
+        closing: match e.closing {
+            Closing::Unresolved => Closing::Mark(d),
+            Closing::Mark(m) => Closing::Mark(m),
+            Closing::Restored => Closing::Restored,
         },
     }
 }
 
-fn entries_after(
-    entries: [Entry; 7],
-    clean: [bool; 7],
-    session: u64,
-    d: u64,
-    r: usize,
-) -> [Entry; 7]
-    requires { r ≤ 7 }
-    ensures { result ≡ up_to (λ i. entry_after (entry_at entries i) (flags_of clean i) session d) entries r }
+// An entry is of two arrays at its index, up to R: zip and iter_mut are no plainer.
+fn entries_after(before: [Entry; 7], b: &Ballot) -> [Entry; 7]
+    ensures { result ≡ up_to (λ i. entry_after (entry_at before i) (flags_of b.now.clean i) b.now.server.now.session b.now.mark) before b.now.replicas }
 {
-    let mut out = entries;
-    for i in 0..r {
-        let e = entries[i];
-        out[i] = entry_after(e, clean[i], session, d);
+    let mut entries = before;
+    for i in 0..b.replicas {
+        entries[i] = entry_after(before[i], b.clean[i], b.server.session, b.mark);
     }
-    out
+    entries
 }
 
 // The register after the message, if it arrives and the session is the register's.
-fn register_after(g: Register, v: Server, b: Ballot, r: usize, fate: Fate) -> Register
-    requires r_bound { r ≤ 7 }
-    requires clean_value { b.clean ≡ up_to (clean_at v b.mark) (replicate 7 false) r }
-    ensures { result ≡ cond (arrives fate && not (session_differs g v)) (opened_register r g v b.mark) g }
+fn register_after(g: Register, b: &Ballot, fate: Fate) -> Register
+    ensures { result ≡ cond (arrives fate && not (session_differs g b.now.server.now)) (opened_register b.now.replicas g b.now.server.now b.now.mark) g }
 {
-    if !does_arrive(fate) {
+    if !does_arrive(fate) || g.session != b.server.session {
         return g;
     }
-    if g.session != v.session {
-        return g;
-    }
-    let entries = g.entries;
-    let clean = b.clean;
-    let after = entries_after(entries, clean, v.session, b.mark, r);
-    Register {
-        session: g.session,
-        generation: g.generation,
-        entries: after,
-    }
+    let entries = entries_after(g.entries, b);
+    Register { entries, ..g }
 }
 
-fn opened_server(v: Server, b: Ballot, r: usize) -> Server
-    requires r_bound { r ≤ 7 }
-    requires clean_value { b.clean ≡ up_to (clean_at v b.mark) (replicate 7 false) r }
-    ensures { result ≡ opened_server r v b.mark }
+fn opened_server(b: &Ballot) -> Server
+    ensures { result ≡ opened_server b.now.replicas b.now.server.now b.now.mark }
 {
-    let entries = v.entries;
-    let held = v.held;
-    let clean = b.clean;
-    let d = b.mark;
-    let marks = marks_after(clean, d, r);
+    let known = b.clean;
+    let marks = marks_after(b);
     Server {
         phase: Phase::Open,
-        session: v.session,
-        generation: v.generation,
-        entries: entries,
-        known: clean,
+        known,
         dropped: [false; 7],
-        marks: marks,
-        start: d,
-        issued: d,
-        acked: d,
-        held: held,
+        marks,
+        start: b.mark,
+        issued: b.mark,
+        acked: b.mark,
+        ..*b.server
     }
 }
 
 // What the message leaves of the register, and what the server makes of its answer or of silence.
-pub fn opened(g: Register, v: Server, b: Ballot, r: usize, fate: Fate) -> Registered
-    requires r_bound { r ≤ 7 }
-    requires clean_value { b.clean ≡ up_to (clean_at v b.mark) (replicate 7 false) r }
-    ensures { (x : Records) (s : ℕ) (media tables : List ℕ) → x.register ≡ g → server_at x s ≡ v → result_of (settled x s result) media (tables_after s b.mark fate tables) ≡ open_effect r b.mark (state_of x media tables) s fate }
+pub fn opened(g: Register, b: &Ballot, fate: Fate) -> Registered
+    ensures { (x : Records) (s : ℕ) (media tables : List ℕ) → x.register ≡ g → server_at x s ≡ b.now.server.now → result_of (settled x s result) media (tables_after s b.now.mark fate tables) ≡ open_effect b.now.replicas b.now.mark (state_of x media tables) s fate }
 {
-    let next = register_after(g, v, b, r, fate);
+    let register = register_after(g, b, fate);
     if is_answered(fate) {
         return Registered {
-            register: next,
-            server: opened_server(v, b, r),
+            register,
+            server: opened_server(b),
             answer: Answer::Value(b.mark),
         };
     }
     Registered {
-        register: next,
+        register,
         server: servers::idle(),
         answer: Answer::Silent,
     }
@@ -154,8 +113,7 @@ pub fn fill(tables: &mut [u64], i: usize, d: u64, fate: Fate)
     ensures { tables.new ≡ tables_after i d fate tables.old }
 {
     if is_answered(fate) {
-        let a = i * TABLE;
-        let e = a + TABLE;
-        locks::fill_table(&mut tables[a..e], d);
+        let at = i * TABLE;
+        locks::fill_table(&mut tables[at..at + TABLE], d);
     }
 }

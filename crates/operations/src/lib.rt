@@ -3,10 +3,9 @@
 #![tactic(auto)]
 
 ghost use Rattle.std.specs.Prelude.{◌≡◌, ◌+◌, ◌≤◌, ◌<◌, length};
-ghost use Rattle.crc32.specs.Tables.{tables_of};
 ghost use Rattle.fate.specs.Fates.{after, leave};
 ghost use Rattle.fate.specs.Numbered.{effect_of, after_from};
-ghost use Rattle.storage.specs.Sizes.{place_size, medium_size, slots_size};
+ghost use Rattle.storage.specs.Sizes.{medium_size, slots_size};
 ghost use Rattle.storage.specs.Operations.{slot_write, promising, closing, prepare_writes, trim_writes, append_writes, note_writes};
 ghost use Rattle.storage.specs.AsRead.{AsRead};
 
@@ -14,45 +13,39 @@ use crc32::Tables;
 use fate::Fate;
 use medium_places::{set_place, truncate};
 use storage::operation::{Read, Target};
-use storage::sizes::SLOT;
+use storage::sizes::{Place, SLOT};
 use storage::slot::{Current, Slot};
 
 // Write k puts a slot over the one that is not current.
-fn set_slot(t: &Tables, m: &mut [u8], c: Current, x: Slot, given: &[u8], f: Fate, k: u64)
-    requires t_value { t.now ≡ tables_of }
-    requires slots_size_in_bounds { slots_size ≤ length m.old }
-    requires given_len { length given.now ≡ place_size }
+fn set_slot(t: &Tables, m: &mut [u8], c: Current, x: Slot, given: &Place, f: Fate, k: u64)
+    requires { slots_size ≤ length m.old }
     ensures { m.new ≡ leave (effect_of f k) given.now (slot_write c x) m.old }
 {
-    let mut b = [0u8; SLOT];
-    slots::encode(t, &mut b, x);
-    let at = slots::other(c);
-    fate::store(m, at, &b, given, f, k);
+    let mut bytes = [0; SLOT];
+    slots::encode(t, &mut bytes, x);
+    fate::store(m, slots::other(c), &bytes, given, f, k);
 }
 
 // A slot with the new promise, unless that is the old one. The result is the number of the next write.
-fn renew(t: &Tables, m: &mut [u8], c: Current, x: Slot, session: u64, given: &[u8], f: Fate) -> u64
-    requires t_value { t.now ≡ tables_of }
+fn renew(t: &Tables, m: &mut [u8], c: Current, x: Slot, session: u64, given: &Place, f: Fate) -> u64
     requires slots_size_in_bounds { slots_size ≤ length m.old }
-    requires given_len { length given.now ≡ place_size }
     ensures { (result ≡ 1 + length (promising c x session)) × (m.new ≡ after_from 1 f given.now (promising c x session) m.old) }
 {
     if x.promise == session {
         return 1;
     }
-    let y = Slot {
+    let next = Slot {
         promise: session,
-        low: x.low,
-        local: x.local,
+        ..x
     };
-    set_slot(t, m, c, y, given, f, 1);
+    set_slot(t, m, c, next, given, f, 1);
     2
 }
 
 // A log with mark n is truncated to the closing mark or to the low-water mark, if either is asked for: writes from k on.
-fn close(m: &mut [u8], n: usize, low: u64, to: Target, given: &[u8], f: Fate, k: u64)
+#[tactic(auto, using(fate::proofs::Laws::from_none), unfolding(storage::specs::Operations::closing))]
+fn close(m: &mut [u8], n: usize, low: u64, to: Target, given: &Place, f: Fate, k: u64)
     requires n_in_bounds { medium_size n ≤ length m.old }
-    requires given_len { length given.now ≡ place_size }
     requires k_bound { k ≤ 2 }
     ensures { m.new ≡ after_from k f given.now (closing n low to) m.old }
 {
@@ -70,53 +63,44 @@ pub fn prepare(
     read: Read,
     session: u64,
     to: Target,
-    given: &[u8],
+    given: &Place,
     f: Fate,
 )
-    requires t_value { t.now ≡ tables_of }
     requires as_read { AsRead read m.old }
-    requires given_len { length given.now ≡ place_size }
     ensures { m.new ≡ after f given.now (prepare_writes read.places session to m.old) m.old }
 {
-    let c = read.current;
-    let x = read.slot;
-    let k = renew(t, m, c, x, session, given, f);
-    close(m, read.mark, x.low, to, given, f, k);
+    let k = renew(t, m, read.current, read.slot, session, given, f);
+    close(m, read.mark, read.slot.low, to, given, f, k);
 }
 
 // trim: truncation to a mark.
-pub fn trim(m: &mut [u8], read: Read, to: u64, given: &[u8], f: Fate)
+#[tactic(auto, using(storage::proofs::Writing::trimmed, storage::proofs::Scan::mark_le))]
+pub fn trim(m: &mut [u8], read: Read, to: u64, given: &Place, f: Fate)
     requires as_read { AsRead read m.old }
-    requires given_len { length given.now ≡ place_size }
     ensures { m.new ≡ after f given.now (trim_writes read.places to m.old) m.old }
 {
     truncate(m, read.mark, to as usize, given, f, 1);
 }
 
 // send and copy: a record in the place behind mark n.
-pub fn append(m: &mut [u8], read: Read, n: u64, src: &[u8], given: &[u8], f: Fate)
+#[tactic(auto, using(storage::proofs::Writing::appended))]
+pub fn append(m: &mut [u8], read: Read, n: u64, src: &Place, given: &Place, f: Fate)
     requires as_read { AsRead read m.old }
     requires n_lt_places { n < read.places }
-    requires src_len { length src.now ≡ place_size }
-    requires given_len { length given.now ≡ place_size }
     ensures { m.new ≡ after f given.now (append_writes n src.now) m.old }
 {
     set_place(m, n as usize + 1, src, given, f, 1);
 }
 
 // note: a slot with the promise kept and these low-water marks.
-pub fn note(t: &Tables, m: &mut [u8], read: Read, low: u64, local: u64, given: &[u8], f: Fate)
-    requires t_value { t.now ≡ tables_of }
+pub fn note(t: &Tables, m: &mut [u8], read: Read, low: u64, local: u64, given: &Place, f: Fate)
     requires as_read { AsRead read m.old }
-    requires given_len { length given.now ≡ place_size }
     ensures { m.new ≡ after f given.now (note_writes low local m.old) m.old }
 {
-    let c = read.current;
-    let x = read.slot;
-    let y = Slot {
-        promise: x.promise,
-        low: low,
-        local: local,
+    let next = Slot {
+        low,
+        local,
+        ..read.slot
     };
-    set_slot(t, m, c, y, given, f, 1);
+    set_slot(t, m, read.current, next, given, f, 1);
 }

@@ -4,7 +4,6 @@
 ghost use Rattle.std.specs.Prelude.{◌≡◌, true, ◌&&◌, ◌+◌, ◌≤◌, length};
 ghost use Rattle.octets.specs.Octets.{part, be_of};
 ghost use Rattle.crc32.specs.Crc32.{checked};
-ghost use Rattle.crc32.specs.Tables.{tables_of};
 ghost use Rattle.storage.specs.Layout.{check_offset};
 ghost use Rattle.storage.specs.Sizes.{place_layout, place_size};
 ghost use Rattle.storage.specs.Places.{valid_place, fields_in, id_of, size_of};
@@ -31,21 +30,14 @@ pub fn fields_fit(s: &[u8], n: u64) -> bool
         return false;
     }
     let k = DATA_AT + size as usize;
-    if !octets::all_zero(&s[k..PLACE_ZEROS_AT]) {
-        return false;
-    }
-    octets::all_zero(&s[PLACE_ZEROS_AT..PLACE_CHECKED])
+    octets::all_zero(&s[k..PLACE_ZEROS_AT]) && octets::all_zero(&s[PLACE_ZEROS_AT..PLACE_CHECKED])
 }
 
 // Whether s is valid as place n. The check comes last, since it takes longest.
 pub fn valid(t: &Tables, s: &[u8], n: u64) -> bool
-    requires { t.now ≡ tables_of }
     ensures { result ≡ valid_place n s.now }
 {
-    if !fields_fit(s, n) {
-        return false;
-    }
-    crc32::check(t, s, PLACE_CHECKED)
+    fields_fit(s, n) && crc32::check(t, s, PLACE_CHECKED)
 }
 
 // The four-byte number at an offset.
@@ -53,8 +45,7 @@ pub fn number(s: &[u8], at: usize) -> u32
     requires { at + 4 ≤ length s.now }
     ensures { result ≡ be_of (part at 4 s.now) }
 {
-    let e = at + WORD;
-    octets::get_be(&s[at..e]) as u32
+    octets::get_be(&s[at..at + WORD]) as u32
 }
 
 // The numbers that a record holds.
@@ -62,14 +53,12 @@ pub fn decode(s: &[u8]) -> Fields
     requires { length s.now ≡ place_size }
     ensures { result ≡ fields_in s.now }
 {
-    let id = octets::get_be(&s[ID_AT..CLIENT_AT]);
-    let sequence = octets::get_be(&s[SEQUENCE_AT..HEADER_AT]);
     Fields {
-        id: id,
+        id: octets::get_be(&s[ID_AT..CLIENT_AT]),
         client: number(s, CLIENT_AT),
         generation: number(s, GENERATION_AT),
         partition: number(s, PARTITION_AT),
-        sequence: sequence,
+        sequence: octets::get_be(&s[SEQUENCE_AT..HEADER_AT]),
         header: number(s, HEADER_AT),
     }
 }

@@ -3,7 +3,6 @@
 
 ghost use Rattle.std.specs.Prelude.{◌≡◌, ◌≤◌, length, take, drop};
 ghost use Rattle.octets.specs.Octets.{write_at, fields_of, offset_of};
-ghost use Rattle.crc32.specs.Tables.{tables_of};
 ghost use Rattle.storage.specs.Layout.{data_offset, padded};
 ghost use Rattle.storage.specs.Sizes.{place_layout, place_size, data_limit};
 ghost use Rattle.storage.specs.Places.{record_bytes, place_numbers};
@@ -49,7 +48,6 @@ fn fill(out: &mut [u8], d: &[u8])
 
 // The record of fields and data.
 pub fn encode(t: &Tables, out: &mut [u8], f: Fields, d: &[u8])
-    requires t_value { t.now ≡ tables_of }
     requires out_len { length out.old ≡ place_size }
     requires d_len_bound { length d.now ≤ data_limit }
     ensures { out.new ≡ record_bytes f d.now }

@@ -1,65 +1,72 @@
--- What a plan says, under another name of its verdict and its operation; and the vote as trim reads it.
+-- What a plan says where a check before it declined, and where all passed; and the vote as trim reads it.
 -- Assumes nothing.
-use mathlib.Core.Path.{◌≡◌, refl, sym, ap, ◌∙◌}
+use mathlib.Core.Path.{◌≡◌, refl, sym, ◌∙◌}
 use mathlib.Core.Bool.{Bool, true, false, not, cond}
 use mathlib.Core.List.{List, [], ◌∷◌, ◌++◌}
 use Prim.Native.Nat.{ℕ}
-use lib.Dec.{ltb}
-use borrow.Author.Tests.{not-false}
-use Rattle.fate.specs.declared.Fate.{Fate}
+use native.Mathlib.Omega.{arith}
+use lib.Dec.{leb}
+use Rattle.std.specs.Prelude.{Option, Some, None, Result, Ok, Err}
+use Rattle.std.specs.Option.{ok_or}
+use Rattle.std.specs.Result.{IsErr, IsErrAnd}
+use Rattle.std.proofs.lemmas.Result.{err_from_is_err_and}
+use Rattle.std.proofs.lemmas.Bool.Decides.{nat_tests}
 use Rattle.storage.specs.declared.operation.Operation.{Operation}
-use Rattle.storage.specs.declared.operation.Operation.TheVariants as op
-use Rattle.quorum.specs.declared.Vote.{Vote}
-use Rattle.quorum.specs.declared.Vote.TheVariants.{Undecided, Decided}
-use Rattle.quorum.specs.Vote.{decided, vote_of}
-use Rattle.cluster.specs.declared.Shape.{Shape}
+use Rattle.quorum.specs.Vote.{vote_of}
+use Rattle.cluster.specs.declared.Refusal.{Refusal}
+use Rattle.cluster.specs.declared.Refusal.TheVariants.{Undecided}
 use Rattle.cluster.specs.declared.Server.{Server}
 use Rattle.cluster.specs.State.{votes_at, mark_at}
-use Rattle.cluster.specs.Refusals.{undecided, vote_mark, nothing_to_trim, row, message_rows, trim_rows, Verdict, pass, first_of, and_then}
-use Rattle.cluster.proofs.Rows.{passed}
-use Rattle.checks.specs.Verdicts.{verdict_of}
-use Rattle.checks.proofs.Behind.{behind, if_passed}
-use Rattle.plans.specs.declared.Plan.{Plan}
-use Rattle.plans.specs.Plans.{check_of, Planned, is_undecided, decided_mark}
+use Rattle.cluster.specs.Replies.{number_of, values_of}
+use Rattle.cluster.specs.Refusals.{undecided, vote_mark, nothing_to_trim, Row, row, pass, declined, first_of}
+use Rattle.checks.proofs.Behind.{stopped}
+use Rattle.plans.specs.Plans.{Planned}
 
-pub as_planned : {p : Plan} {a b : Verdict} {o u : Operation} → Planned p a o → a ≡ b → o ≡ u → Planned p b u
-as_planned {p} {a} {b} {o} {u} l e q = record { checked = l.checked ∙ e; does = λ x r. l.does x r ∙ q }
+-- the first rows declined
+pub refused :
+    (p : Result Operation Refusal) (why : Refusal) {o : Operation} (ws us : List Row)
+    → IsErr p × IsErrAnd p (λ y. y ≡ why)
+    → declined (number_of why) (values_of why) ≡ first_of ws
+    → Planned p (first_of (ws ++ us)) o
+refused p why {o} ws us h e =
+    let r = err_from_is_err_and p h.1 in
+    record { checked = stopped p why ws us h e; does = λ u q. cc }
 
--- the operation need only be right if nothing declines
-pub if_done : {p : Plan} {a b : Verdict} {o u : Operation} → Planned p a o → a ≡ b → (b ≡ pass → o ≡ u) → Planned p b u
-if_done {p} {a} {b} {o} {u} l e q =
-    record { checked = l.checked ∙ e; does = λ x r. l.does x r ∙ q (sym (l.checked ∙ e) ∙ ap (λ (y : Plan). verdict_of (check_of y)) r) }
+pub goes : {o u : Operation} (ws : List Row) → pass ≡ first_of ws → o ≡ u → Planned (Ok o) (first_of ws) u
+goes ws e q = record { checked = e; does = λ u r. cc }
 
 -- ---- the vote, as trim reads it
 
-vote_undecided : (b : Bool) (m : ℕ) → is_undecided (cond b (Decided m) Undecided) ≡ not b
-vote_undecided true m = refl
-vote_undecided false m = refl
+-- a chosen value is there just where the choice holds
+chosen_none : (b : Bool) (m : ℕ) → cond b (Some m) None ≡ None → not b ≡ true
+chosen_none true m e = cc
+chosen_none false m e = refl
 
-vote_mark_lem : (b : Bool) (m : ℕ) → b ≡ true → decided_mark (cond b (Decided m) Undecided) ≡ m
-vote_mark_lem b m e = rw e
+chosen : (b : Bool) (m d : ℕ) → cond b (Some m) None ≡ Some d → (not b ≡ false) × (d ≡ m)
+chosen true m d e = (refl, cc)
+chosen false m d e = cc
 
-module _ (h : Shape) (v : Server) (i : ℕ) (f : Fate) (given : List ℕ) (vote : Vote) (is : vote ≡ vote_of (votes_at v) (mark_at v) h.replicas) where
-  pub undecided_is : is_undecided vote ≡ undecided h.replicas v
-  unfolding vote_of
-  undecided_is = ap is_undecided is ∙ vote_undecided (decided (votes_at v) (mark_at v) h.replicas) _
+module _ (r : ℕ) (v : Server) {vote : Option ℕ} (is : vote ≡ vote_of (votes_at v) (mark_at v) r) where
+  -- no mark is decided: 8
+  pub undecided_row :
+      (why : Refusal)
+      → vote ≡ None
+      → ◌≡◌ {A = Result ℕ Refusal} (Err why) (ok_or vote Undecided)
+      → declined (number_of why) (values_of why) ≡ first_of (row 8 (undecided r v) ∷ [])
+  unfolding vote_of first_of
+  undecided_row why none e =
+      let u = chosen_none _ _ (sym is ∙ none) in
+      let w : why ≡ Undecided = cc in
+      rw (u, w) refl
 
-  mark_is : undecided h.replicas v ≡ false → decided_mark vote ≡ vote_mark h.replicas v
-  unfolding vote_of
-  mark_is e = ap decided_mark is ∙ vote_mark_lem (decided (votes_at v) (mark_at v) h.replicas) _ (not-false _ e)
+  module _ {d : ℕ} (some : vote ≡ Some d) where
+    pub decided_row : pass ≡ first_of (row 8 (undecided r v) ∷ [])
+    unfolding vote_of first_of
+    decided_row = let u = (chosen _ _ d (sym is ∙ some)).0 in rw u refl
 
-  -- 8, then 16, which need only be right of a decided vote
-  pub trim_checked :
-      {j k l : Verdict}
-      → j ≡ first_of (message_rows h v i f given)
-      → k ≡ and_then j (row 8 (undecided h.replicas v) ∷ [])
-      → l ≡ and_then k (row 16 (not (ltb (decided_mark vote) (mark_at v i))) ∷ [])
-      → l ≡ first_of (trim_rows h v i f given)
-  trim_checked ej ek el =
-      let ws = message_rows h v i f given ++ (row 8 (undecided h.replicas v) ∷ []) in
-      if_passed ws (row 16 (not (ltb (decided_mark vote) (mark_at v i)))) (row 16 (nothing_to_trim (vote_mark h.replicas v) v i))
-      (behind (message_rows h v i f given) (row 8 (undecided h.replicas v) ∷ []) ej ek)
-      (λ e. ap (λ (d : ℕ). row 16 (not (ltb d (mark_at v i)))) (mark_is (passed ws e 8))) el
+    pub mark_is : d ≡ vote_mark r v
+    unfolding vote_of
+    mark_is = (chosen _ _ d (sym is ∙ some)).1
 
-  pub trims : first_of (trim_rows h v i f given) ≡ pass → op.Trim (decided_mark vote) ≡ op.Trim (vote_mark h.replicas v)
-  trims e = ap op.Trim (mark_is (passed (trim_rows h v i f given) e 8))
+    pub trim_row : (i : ℕ) → leb (mark_at v i) d ≡ nothing_to_trim (vote_mark r v) v i
+    trim_row i = let e = mark_is in rw (← e) (grind (arith, nat_tests))

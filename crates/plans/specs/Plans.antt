@@ -1,26 +1,21 @@
 -- What a call has its replica do, or why it is declined before the message: the code's kinds and plans in the definitions of the calls.
 -- Assumes nothing.
-use Rattle.std.specs.Prelude.{◌≡◌, ℕ, Bool, true, false, List}
+use Rattle.std.specs.Prelude.{◌≡◌, ℕ, List, Result, Ok}
 use Rattle.fate.specs.declared.Fate.{Fate}
 use Rattle.storage.specs.declared.operation.Operation.{Operation}
 use Rattle.storage.specs.declared.operation.Operation.TheVariants as op
-use Rattle.quorum.specs.declared.Vote.{Vote}
-use Rattle.quorum.specs.declared.Vote.TheVariants.{Undecided, Decided}
 use Rattle.cluster.specs.declared.Shape.{Shape}
 use Rattle.cluster.specs.declared.Phases.{Phases}
 use Rattle.cluster.specs.declared.Server.{Server}
+use Rattle.cluster.specs.declared.Refusal.{Refusal}
 use Rattle.cluster.specs.declared.Call.{Call}
 use Rattle.cluster.specs.declared.Call.TheVariants as call
 use Rattle.cluster.specs.State.{mark_at}
 use Rattle.cluster.specs.Refusals.{only_opening, only_open, vote_mark, Row, prepare_rows, message_rows, trim_rows, send_rows, Verdict}
 use Rattle.cluster.specs.Effects.{prepare_operation}
-use Rattle.checks.specs.declared.Check.{Check}
-use Rattle.checks.specs.declared.Check.TheVariants as check
 use Rattle.checks.specs.Verdicts.{verdict_of}
 use Rattle.plans.specs.declared.Kind.{Kind}
 use Rattle.plans.specs.declared.Kind.TheVariants.{Prepare, Trim, Note, Send}
-use Rattle.plans.specs.declared.Plan.{Plan}
-use Rattle.plans.specs.declared.Plan.TheVariants.{Do, Refuse}
 
 -- ---- kinds
 
@@ -51,21 +46,7 @@ operation_of Send r v i = op.Append (mark_at v i)
 
 -- ---- plans
 
-abbrev pub check_of : Plan → Check
-check_of (Do o) = check.Pass
-check_of (Refuse why) = check.Refuse why
-
 -- the plan declines with this verdict, or is to do this operation
-pub record Planned (p : Plan) (verdict : Verdict) (operation : Operation) : Type 0 where
-  pub checked : verdict_of (check_of p) ≡ verdict
-  pub does : (o : Operation) → p ≡ Do o → o ≡ operation
-
--- ---- votes
-
-abbrev pub is_undecided : Vote → Bool
-is_undecided Undecided = true
-is_undecided (Decided d) = false
-
-abbrev pub decided_mark : Vote → ℕ
-decided_mark Undecided = 0
-decided_mark (Decided d) = d
+pub record Planned (p : Result Operation Refusal) (verdict : Verdict) (operation : Operation) : Type 0 where
+  pub checked : verdict_of p ≡ verdict
+  pub does : (o : Operation) → p ≡ Ok o → o ≡ operation

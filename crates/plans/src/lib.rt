@@ -2,20 +2,17 @@
 #![tactic(auto)]
 
 ghost use Rattle.std.specs.Prelude.{◌≡◌, ◌<◌, ◌≤◌};
-ghost use Rattle.crc32.specs.Tables.{tables_of};
 ghost use Rattle.cluster.specs.State.{mark_at};
 ghost use Rattle.cluster.specs.Refusals.{first_of};
 ghost use Rattle.cluster.specs.Effects.{target_of};
-ghost use Rattle.checks.specs.Verdicts.{verdict_of};
 ghost use Rattle.plans.specs.declared.Kind.TheVariants as kind;
-ghost use Rattle.plans.specs.Plans.{Planned, decided_mark, is_undecided, sending_rows, operation_of};
+ghost use Rattle.plans.specs.Plans.{Planned, sending_rows, operation_of};
 
-use checks::{Check, also};
+use checks::refuse_if;
 use cluster::{Closing, Refusal, Server, Shape};
 use crc32::Tables;
 use fate::Fate;
 use message_checks::{check_message, unfit_fate};
-use quorum::Vote;
 use servers::held::holds;
 use storage::operation::{Operation, Target};
 use storage::sizes::Place;
@@ -30,22 +27,7 @@ pub enum Kind {
     Send,
 }
 
-#[derive(Clone, Copy)]
-pub enum Plan {
-    Do(Operation),
-    Refuse(Refusal),
-}
-
-// An operation, unless the checks before it decline.
-pub fn planned(k: Check, op: Operation) -> Plan
-    ensures { Planned result (verdict_of k) op }
-{
-    match k {
-        Check::Pass => Plan::Do(op),
-        Check::Refuse(why) => Plan::Refuse(why),
-    }
-}
-
+// A function and no `From`: neither type is of this crate.
 fn target_of(c: Closing) -> Target
     ensures { result ≡ target_of c }
 {
@@ -57,78 +39,76 @@ fn target_of(c: Closing) -> Target
 }
 
 // To the closing mark of the entry handed over at take, or to the replica's low-water mark if that says restored. prepare is exempt from 7.
-fn plan_prepare(t: &Tables, shape: Shape, v: Server, i: usize, f: Fate, given: &Place) -> Plan
-    requires t_value { t.now ≡ tables_of }
+// Here and below t, shape, v, i, f and given stay apart: the rows of cluster specs/Refusals take all but t one by one, and the calls above hand them on so.
+fn plan_prepare(
+    t: &Tables,
+    shape: Shape,
+    v: Server,
+    i: usize,
+    f: Fate,
+    given: &Place,
+) -> Result<Operation, Refusal>
     requires i_bound { i < 7 }
     ensures { Planned result (first_of (sending_rows kind.Prepare shape v i f given.now)) (operation_of kind.Prepare shape.replicas v i) }
 {
-    let e = v.entries[i];
-    let c = e.closing;
-    let k = also(
-        Check::Pass,
-        unfit_fate(t, f, given, shape.places),
-        Refusal::UnfitFate,
-    );
-    planned(k, Operation::Prepare(v.session, target_of(c)))
-}
-
-fn is_undecided(vote: Vote) -> bool
-    ensures { result ≡ is_undecided vote }
-{
-    match vote {
-        Vote::Undecided => true,
-        Vote::Decided(_) => false,
-    }
-}
-
-fn decided_mark(vote: Vote) -> u64
-    ensures { result ≡ decided_mark vote }
-{
-    match vote {
-        Vote::Undecided => 0,
-        Vote::Decided(d) => d,
-    }
+    refuse_if(unfit_fate(t, f, given, shape.places), Refusal::UnfitFate)?;
+    Ok(Operation::Prepare(v.session, target_of(v.entries[i].closing)))
 }
 
 // To the majority mark.
-fn plan_trim(t: &Tables, shape: Shape, v: Server, i: usize, f: Fate, given: &Place) -> Plan
-    requires t_value { t.now ≡ tables_of }
+fn plan_trim(
+    t: &Tables,
+    shape: Shape,
+    v: Server,
+    i: usize,
+    f: Fate,
+    given: &Place,
+) -> Result<Operation, Refusal>
     requires i_bound { (i < 7) × (shape.replicas ≤ 7) }
     ensures { Planned result (first_of (sending_rows kind.Trim shape v i f given.now)) (operation_of kind.Trim shape.replicas v i) }
 {
-    let recorded = v.marks[i];
-    let vote = vote_among(v, shape.replicas as usize);
-    let d = decided_mark(vote);
-    let k = check_message(t, shape, v, i, f, given);
-    let k = also(k, is_undecided(vote), Refusal::Undecided);
-    let k = also(k, !(d < recorded), Refusal::NothingToDo);
-    planned(k, Operation::Trim(d))
+    check_message(t, shape, v, i, f, given)?;
+    let d = vote_among(v, shape.replicas as usize).ok_or(Refusal::Undecided)?;
+    refuse_if(v.marks[i] <= d, Refusal::NothingToDo)?;
+    Ok(Operation::Trim(d))
 }
 
 // With the starting mark as low-water mark and the recorded one as the local.
-fn plan_note(t: &Tables, shape: Shape, v: Server, i: usize, f: Fate, given: &Place) -> Plan
-    requires t_value { t.now ≡ tables_of }
+fn plan_note(
+    t: &Tables,
+    shape: Shape,
+    v: Server,
+    i: usize,
+    f: Fate,
+    given: &Place,
+) -> Result<Operation, Refusal>
     requires i_bound { i < 7 }
     ensures { Planned result (first_of (sending_rows kind.Note shape v i f given.now)) (operation_of kind.Note shape.replicas v i) }
 {
-    let mark = v.marks[i];
-    let k = check_message(t, shape, v, i, f, given);
-    planned(k, Operation::Note(v.start, mark))
+    check_message(t, shape, v, i, f, given)?;
+    Ok(Operation::Note(v.start, v.marks[i]))
 }
 
 // The record that follows the recorded mark, if it is held.
-fn plan_send(t: &Tables, shape: Shape, v: Server, i: usize, f: Fate, given: &Place) -> Plan
-    requires t_value { t.now ≡ tables_of }
+fn plan_send(
+    t: &Tables,
+    shape: Shape,
+    v: Server,
+    i: usize,
+    f: Fate,
+    given: &Place,
+) -> Result<Operation, Refusal>
     requires i_bound { (i < 7) × (mark_at v i ≤ 1000) }
     ensures { Planned result (first_of (sending_rows kind.Send shape v i f given.now)) (operation_of kind.Send shape.replicas v i) }
 {
+    check_message(t, shape, v, i, f, given)?;
     let mark = v.marks[i];
-    let k = check_message(t, shape, v, i, f, given);
     let held = holds(v.start, v.issued, mark + 1);
-    let k = also(k, !held, Refusal::NothingToDo);
-    planned(k, Operation::Append(mark))
+    refuse_if(!held, Refusal::NothingToDo)?;
+    Ok(Operation::Append(mark))
 }
 
+// Each kind has rows and an operation of its own: a closure would have to carry the law `Planned`.
 pub fn plan_of(
     t: &Tables,
     kind: Kind,
@@ -137,8 +117,7 @@ pub fn plan_of(
     i: usize,
     f: Fate,
     given: &Place,
-) -> Plan
-    requires t_value { t.now ≡ tables_of }
+) -> Result<Operation, Refusal>
     requires i_bound { (i < 7) × (shape.replicas ≤ 7) × (mark_at v i ≤ 1000) }
     ensures { Planned result (first_of (sending_rows kind shape v i f given.now)) (operation_of kind shape.replicas v i) }
 {

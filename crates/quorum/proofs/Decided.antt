@@ -7,7 +7,7 @@ use mathlib.Core.Bool.{Bool, true, false}
 use mathlib.Core.Logic.{◌↔◌}
 use Prim.Native.Nat.{ℕ}
 use native.Mathlib.Omega.{arith}
-use Rattle.quorum.specs.declared.Vote.TheVariants.{Undecided, Decided}
+use Rattle.std.specs.Prelude.{Some, None}
 use Rattle.quorum.specs.Vote.{majority_mark, decided, vote_of}
 use Rattle.quorum.proofs.Filling.{EveryFillingGives, FillingsDiffer, ClusterSize, KnownWithin, filling}
 
@@ -27,23 +27,23 @@ Statement =
 -- ---- its proof
 
 module _ (known : ℕ → Bool) (mark : ℕ → ℕ) (r : ℕ) where
-  vote_decided : decided known mark r ≡ true → vote_of known mark r ≡ Decided (majority_mark known mark r)
+  vote_decided : decided known mark r ≡ true → vote_of known mark r ≡ Some (majority_mark known mark r)
   unfolding vote_of
   vote_decided e = rw e
 
-  vote_undecided : decided known mark r ≡ false → vote_of known mark r ≡ Undecided
+  vote_undecided : decided known mark r ≡ false → vote_of known mark r ≡ None
   unfolding vote_of
   vote_undecided e = rw e
 
-  decided_vote : (d : ℕ) → vote_of known mark r ≡ Decided d → (decided known mark r ≡ true) × (d ≡ majority_mark known mark r)
+  decided_vote : (d : ℕ) → vote_of known mark r ≡ Some d → (decided known mark r ≡ true) × (d ≡ majority_mark known mark r)
   unfolding vote_of
   decided_vote d e = go (decided known mark r) refl
     where
       go : (b : Bool) → decided known mark r ≡ b → (b ≡ true) × (d ≡ majority_mark known mark r)
-      go true q = (refl, let v : Decided d ≡ Decided (majority_mark known mark r) = sym e ∙ vote_decided q in cc)
+      go true q = (refl, let v : Some d ≡ Some (majority_mark known mark r) = sym e ∙ vote_decided q in cc)
       go false q = absurd (let z : ◌≡◌ {A = ℕ} 0 1 = cc (e, vote_undecided q) in omega arith)
 
-  undecided_vote : vote_of known mark r ≡ Undecided → decided known mark r ≡ false
+  undecided_vote : vote_of known mark r ≡ None → decided known mark r ≡ false
   undecided_vote e = go (decided known mark r) refl
     where
       go : (b : Bool) → decided known mark r ≡ b → b ≡ false

@@ -15,8 +15,7 @@ use borrow.Author.Tests.{le-leb, lt-leb, leb-true, ltb-true}
 use Rattle.base.specs.Below.{bit, count, up_to}
 use Rattle.base.proofs.Tests.{lt_or_le, both}
 use Rattle.base.proofs.Below.{bit_le, count_le, count_sum, count_mono, count_every, count_front, up_to_length, up_to_at}
-use Rattle.quorum.specs.declared.Vote.{Vote}
-use Rattle.quorum.specs.declared.Vote.TheVariants.{Undecided, Decided}
+use Rattle.std.specs.Prelude.{Option, Some, None}
 use Rattle.quorum.specs.Vote.{marks_of, quorum, reach, majority_mark, decided, vote_of}
 use Rattle.quorum.proofs.Laws.{vote_yes}
 use Rattle.quorum.proofs.Reach.{reach_zero, reach_down, reach_none, majority_above, majority_reached, majority_is}
@@ -59,8 +58,8 @@ pub record FillingsDiffer (known : ℕ → Bool) (mark : ℕ → ℕ) (r n : ℕ
   pub differ : a ≡ b → ⊥
 
 pub record Exactly (known : ℕ → Bool) (mark : ℕ → ℕ) (r n : ℕ) : Type 0 where
-  pub decided : (d : ℕ) → (vote_of known mark r ≡ Decided d) ↔ EveryFillingGives known mark r n d
-  pub undecided : (vote_of known mark r ≡ Undecided) ↔ FillingsDiffer known mark r n
+  pub decided : (d : ℕ) → (vote_of known mark r ≡ Some d) ↔ EveryFillingGives known mark r n d
+  pub undecided : (vote_of known mark r ≡ None) ↔ FillingsDiffer known mark r n
 
 -- "R = 1, 3, 5 or 7", "N places (1 to 1,000)"
 abbrev pub ClusterSize : ℕ → ℕ → Type 0
@@ -189,11 +188,11 @@ Counted known mark r d =
     × (reach known mark r (suc (majority_mark known mark r)) + (r - count known r) < quorum r)
     × (majority_mark known mark r ≡ d)
 
-vote_counted : (known : ℕ → Bool) (mark : ℕ → ℕ) (r d : ℕ) → vote_of known mark r ≡ Decided d → Counted known mark r d
+vote_counted : (known : ℕ → Bool) (mark : ℕ → ℕ) (r d : ℕ) → vote_of known mark r ≡ Some d → Counted known mark r d
 unfolding vote_of decided
 vote_counted known mark r d e = go (decided known mark r) refl e
   where
-    go : (b : Bool) → decided known mark r ≡ b → cond b (Decided (majority_mark known mark r)) Undecided ≡ Decided d → Counted known mark r d
+    go : (b : Bool) → decided known mark r ≡ b → cond b (Some (majority_mark known mark r)) None ≡ Some d → Counted known mark r d
     go true x z =
         let more = reach known mark r (suc (majority_mark known mark r)) + (r - count known r) in
         let t = both (leb (quorum r) (count known r)) (ltb more (quorum r)) x in
@@ -201,7 +200,7 @@ vote_counted known mark r d e = go (decided known mark r) refl e
     go false x z = absurd (let w : ◌≡◌ {A = ℕ} 0 1 = cc in omega arith)
 
 module _ (known : ℕ → Bool) (mark : ℕ → ℕ) (r n : ℕ) (odd : r % 2 ≡ 1) (one : 1 ≤ n) (low : KnownWithin known mark r n) where
-  decided_fills : (d : ℕ) → vote_of known mark r ≡ Decided d → EveryFillingGives known mark r n d
+  decided_fills : (d : ℕ) → vote_of known mark r ≡ Some d → EveryFillingGives known mark r n d
   decided_fills d e marks fills =
       let v = vote_counted known mark r d e in
       let m : majority_mark known mark r ≡ d = v.2 in
@@ -212,7 +211,7 @@ module _ (known : ℕ → Bool) (mark : ℕ → ℕ) (r n : ℕ) (odd : r % 2 �
       (omega (arith, fill_high known mark r n marks fills (suc d), count_le known r))
 
   -- the vote is d if Q reach d, and too few more could go beyond
-  settled : (d : ℕ) → quorum r ≤ count known r → quorum r ≤ reach known mark r d → reach known mark r (suc d) + (r - count known r) < quorum r → vote_of known mark r ≡ Decided d
+  settled : (d : ℕ) → quorum r ≤ count known r → quorum r ≤ reach known mark r d → reach known mark r (suc d) + (r - count known r) < quorum r → vote_of known mark r ≡ Some d
   settled d enough reached beyond =
       let m = majority_is known mark r d (omega arith) reached (omega arith) in
       sym (vote_yes known mark r (quorum r) (count known r) refl refl d (reach known mark r (suc d)) (sym m) refl enough beyond)
@@ -230,7 +229,7 @@ module _ (known : ℕ → Bool) (mark : ℕ → ℕ) (r n : ℕ) (odd : r % 2 �
   fills_tops = evenly_fills known mark r n n (omega arith)
 
   -- it is enough that the lowest and the highest marks agree
-  ends_decide : (d : ℕ) → HighestHeld zeros d → HighestHeld tops d → vote_of known mark r ≡ Decided d
+  ends_decide : (d : ℕ) → HighestHeld zeros d → HighestHeld tops d → vote_of known mark r ≡ Some d
   ends_decide d z t =
       let held : quorum r ≤ full zeros r d = held_count zeros r fills_zeros.every odd d z.held in
       let reached : 1 ≤ d → quorum r ≤ reach known mark r d = λ p. omega (arith, fill_none known mark r n zeros fills_zeros d (λ i l e. omega (arith, evenly_absent known mark r 0 i l e))) in
@@ -249,7 +248,7 @@ module _ (known : ℕ → Bool) (mark : ℕ → ℕ) (r n : ℕ) (odd : r % 2 �
       settled d enough here (omega arith))
       (lt_or_le d n)
 
-  undecided_differ : vote_of known mark r ≡ Undecided → FillingsDiffer known mark r n
+  undecided_differ : vote_of known mark r ≡ None → FillingsDiffer known mark r n
   undecided_differ e =
       let z = highest_of zeros r fills_zeros.every odd in
       let t = highest_of tops r fills_tops.every odd in
@@ -265,12 +264,12 @@ module _ (known : ℕ → Bool) (mark : ℕ → ℕ) (r n : ℕ) (odd : r % 2 �
         differ = λ q. let w : ◌≡◌ {A = ℕ} 0 1 = cc (ends_decide t.0 (rw q at z.1) t.1) in omega arith;
       }
 
-  differ_undecided : FillingsDiffer known mark r n → vote_of known mark r ≡ Undecided
+  differ_undecided : FillingsDiffer known mark r n → vote_of known mark r ≡ None
   differ_undecided f = go (vote_of known mark r) refl
     where
-      go : (v : Vote) → vote_of known mark r ≡ v → v ≡ Undecided
-      go Undecided e = refl
-      go (Decided d) e =
+      go : (v : Option ℕ) → vote_of known mark r ≡ v → v ≡ None
+      go None e = refl
+      go (Some d) e =
           absurd
           (f.differ
           (unique f.one f.a d f.gives_a (decided_fills d e f.one f.fills_one)

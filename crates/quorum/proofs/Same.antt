@@ -6,7 +6,7 @@ use Prim.Native.Nat.{ℕ, suc, ◌+◌, ◌-◌}
 use lib.Dec.{leb, ltb}
 use Rattle.base.specs.Below.{count}
 use Rattle.base.proofs.Same.{Same, count_same, highest_same}
-use Rattle.quorum.specs.declared.Vote.TheVariants.{Undecided, Decided}
+use Rattle.std.specs.Prelude.{Some, None}
 use Rattle.quorum.specs.Vote.{quorum, reach, backed, majority_mark, decided, vote_of}
 
 module _ (r : ℕ) (p q : ℕ → Bool) (mark other : ℕ → ℕ) (e : Same r p q) (k : Same r mark other) where
@@ -30,4 +30,4 @@ module _ (r : ℕ) (p q : ℕ → Bool) (mark other : ℕ → ℕ) (e : Same r p
 
   pub vote_same : vote_of p mark r ≡ vote_of q other r
   unfolding vote_of
-  vote_same = ap₂ (λ (b : Bool) (n : ℕ). cond b (Decided n) Undecided) decided_same majority_same
+  vote_same = ap₂ (λ (b : Bool) (n : ℕ). cond b (Some n) None) decided_same majority_same

@@ -2,10 +2,8 @@
 -- `known i` says whether replica i is counted, `mark i` is the highest ID that it holds, r is R. Whoever is not known is absent: who that
 -- is, is the caller's to say by the flags, and nothing here asks for the reason.
 -- Assumes nothing.
-use Rattle.std.specs.Prelude.{ℕ, suc, ◌+◌, ◌-◌, ◌/◌, Bool, false, cond, ◌&&◌, List, get_or, leb, ltb}
+use Rattle.std.specs.Prelude.{ℕ, suc, ◌+◌, ◌-◌, ◌/◌, Bool, false, cond, ◌&&◌, List, get_or, leb, ltb, Option, Some, None}
 use Rattle.base.specs.Below.{count, highest}
-use Rattle.quorum.specs.declared.Vote.{Vote}
-use Rattle.quorum.specs.declared.Vote.TheVariants.{Undecided, Decided}
 
 -- the flags and the marks of an array
 abbrev pub flags_of : List Bool → ℕ → Bool
@@ -42,5 +40,6 @@ decided known mark r =
     leb (quorum r) (count known r)
     && ltb (reach known mark r (suc (majority_mark known mark r)) + absent known r) (quorum r)
 
-unfoldable pub vote_of : (ℕ → Bool) → (ℕ → ℕ) → ℕ → Vote
-vote_of known mark r = cond (decided known mark r) (Decided (majority_mark known mark r)) Undecided
+-- the mark, where it is decided
+unfoldable pub vote_of : (ℕ → Bool) → (ℕ → ℕ) → ℕ → Option ℕ
+vote_of known mark r = cond (decided known mark r) (Some (majority_mark known mark r)) None

@@ -1,6 +1,5 @@
 // read: a place's bytes lie beside the answer. Nothing is written, so the media are lent for reading only.
 ghost use Rattle.std.specs.Prelude.{◌≡◌, List, ℕ, ◌<◌, ◌≤◌, length};
-ghost use Rattle.crc32.specs.Tables.{tables_of};
 ghost use Rattle.cluster.specs.declared.Call.TheVariants as call;
 ghost use Rattle.cluster.specs.State.{server_at};
 ghost use Rattle.cluster.specs.Refusals.{nothing_to_read, read_rows, first_of};
@@ -10,10 +9,10 @@ ghost use Rattle.checks.specs.Results.{state_of, input_of, result_of};
 ghost use Rattle.hearing.specs.Hearing.{read_by};
 ghost use Rattle.delivery.specs.Messages.{Named};
 
-use checks::{Check, admit_replica, also, declined, settle};
-use cluster::{Answer, Outcome, Phases, Records, Refusal, Server, Shape};
+use checks::{ONLY_OPEN, admit_replica, declined, refuse_if, settle};
+use cluster::{Answer, Outcome, Records, Refusal, Server, Shape};
 use crc32::Tables;
-use delivery::span_of;
+use delivery::medium_of;
 use fate::Fate;
 use hearing::{no_mark, with_heard, with_unheard};
 use message_checks::check_message;
@@ -27,13 +26,7 @@ fn nothing_to_read(v: Server, i: usize, id: u64) -> bool
     requires { i < 7 }
     ensures { result ≡ nothing_to_read v i id }
 {
-    if id == 0 {
-        return true;
-    }
-    if v.marks[i] < id {
-        return true;
-    }
-    v.acked < id
+    id == 0 || v.marks[i] < id || v.acked < id
 }
 
 // 6, 7 and 16.
@@ -45,13 +38,12 @@ pub fn check_read(
     id: u64,
     f: Fate,
     given: &Place,
-) -> Check
-    requires t_value { t.now ≡ tables_of }
+) -> Result<(), Refusal>
     requires i_bound { i < 7 }
     ensures { verdict_of result ≡ first_of (read_rows shape v i id f given.now) }
 {
-    let k = check_message(t, shape, v, i, f, given);
-    also(k, nothing_to_read(v, i, id), Refusal::NothingToDo)
+    check_message(t, shape, v, i, f, given)?;
+    refuse_if(nothing_to_read(v, i, id), Refusal::NothingToDo)
 }
 
 // What the server makes of the answer: the place's bytes, and the mark.
@@ -82,16 +74,12 @@ fn read_sent(
     id: u64,
     fate: Fate,
 ) -> Outcome
-    requires t_value { t.now ≡ tables_of }
     requires named { (Named shape (server_at records s) i (length media.now)) × (s < 4) × (1 ≤ id) × (id ≤ shape.places) }
     ensures { (given tables : List ℕ) → result_of result media.now tables ≡ once_sent shape (state_of records media.now tables) (input_of (call.Read s i id fate) given) }
 {
     let v = records.servers[s];
-    let recorded = v.marks[i];
-    let span = span_of(shape.places, i);
-    let at = span.at;
-    let end = span.end;
-    let heard = replica::read(t, &media[at..end], shape.places, v.session, recorded, fate);
+    let medium = medium_of(media, shape.places, i);
+    let heard = replica::read(t, medium, shape.places, v.session, v.marks[i], fate);
     let place = place_of(shape, media, i, id);
     read_by(records, s, i, place, heard)
 }
@@ -110,12 +98,11 @@ fn read_admitted(
     requires { (Named shape (server_at records s) i (length media.now)) × (s < 4) }
     ensures { (tables : List ℕ) → result_of result media.now tables ≡ once_admitted shape (state_of records media.now tables) (input_of (call.Read s i id fate) given.now) }
 {
-    let t = crc32::tables();
+    let t = Tables::new();
     let v = records.servers[s];
-    let k = check_read(&t, shape, v, i, id, fate, given);
-    match k {
-        Check::Refuse(why) => declined(records, why),
-        Check::Pass => read_sent(&t, shape, records, media, s, i, id, fate),
+    match check_read(&t, shape, v, i, id, fate, given) {
+        Err(why) => declined(records, why),
+        Ok(()) => read_sent(&t, shape, records, media, s, i, id, fate),
     }
 }
 
@@ -133,22 +120,18 @@ pub fn read(
 ) -> Outcome
     ensures { result_of result media.now tables.now ≡ step shape (state_of records media.now tables.now) (input_of (call.Read server replica id fate) given.now) }
 {
-    let k = admit_replica(
+    let admitted = admit_replica(
         shape,
         records,
         media.len(),
         tables.len(),
         server,
         shape.replicas <= replica,
-        Phases {
-            idle: false,
-            opening: false,
-            open: true,
-        },
+        ONLY_OPEN,
     );
-    match k {
-        Check::Refuse(why) => declined(records, why),
-        Check::Pass => read_admitted(
+    match admitted {
+        Err(why) => declined(records, why),
+        Ok(()) => read_admitted(
             shape,
             records,
             media,

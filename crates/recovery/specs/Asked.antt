@@ -7,6 +7,7 @@ use Rattle.fate.specs.declared.Left.{Left}
 use Rattle.fate.specs.declared.Left.TheVariants.{Old, New, Torn}
 use Rattle.cluster.specs.declared.Outcome.{Outcome}
 use Rattle.cluster.specs.Replies.{reply_of}
+use Rattle.recovery.specs.declared.Asked.{Asked}
 use Rattle.recovery.specs.declared.Recovered.{Recovered}
 use Rattle.recovery.specs.Recovery.{Recovery, Trail}
 
@@ -29,6 +30,10 @@ fates_of ks = map fate_of ks
 -- the server by value, the rest lent
 abbrev pub asked_of : ℕ → (listed fates given : List ℕ) → Recovery
 asked_of server listed fates given = record { server = server; listed = listed; fates = fates_of fates; given = given }
+
+-- of what the driver has made of them once its checks have passed
+abbrev pub recovery_of : Asked → Recovery
+recovery_of a = asked_of a.server a.listed.now a.fates.now a.given.now
 
 -- how far it has come: what it carries by value, and the lent slices
 abbrev pub trail_of : Recovered → (media tables : List ℕ) → Trail

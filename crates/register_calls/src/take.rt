@@ -1,15 +1,34 @@
 // take: an idle server gets the next session, the generation and the entries.
-ghost use Rattle.std.specs.Prelude.{◌≡◌, []};
+ghost use Rattle.std.specs.Prelude.{◌≡◌, ◌++◌, List, ℕ, [], length};
 ghost use Rattle.cluster.specs.declared.Call.TheVariants as call;
+ghost use Rattle.cluster.specs.Refusals.{only_idle, phase_rows, first_of};
 ghost use Rattle.cluster.specs.Step.{step};
+ghost use Rattle.checks.specs.Verdicts.{verdict_of};
 ghost use Rattle.checks.specs.Results.{state_of, input_of, result_of};
+ghost use Rattle.register_calls.specs.Judged.{take_rows};
 
-use checks::{Check, also};
-use cluster::{Outcome, Phases, Records, Refusal, Shape};
-use conditions::both;
+use checks::{ONLY_IDLE, refuse_if};
+use cluster::{Outcome, Records, Refusal, Shape};
 use fate::Fate;
 use register_message::{is_answered, is_cut, settle};
-use take_effect::{at_top, taken};
+use take_effect::taken;
+
+// 1 to 3, 5, 6 and 21. A session's number has 64 bits.
+fn judge(
+    shape: Shape,
+    records: Records,
+    media: usize,
+    tables: usize,
+    server: u64,
+    fate: Fate,
+) -> Result<(), Refusal>
+    ensures { (m t : List ℕ) → length m ≡ media → length t ≡ tables → verdict_of result ≡ first_of (phase_rows shape (state_of records m t) server only_idle ++ take_rows records.register fate) }
+{
+    let at_top = records.register.session == u64::MAX;
+    checks::admit_phase(shape, records, media, tables, server, ONLY_IDLE)?;
+    refuse_if(is_cut(fate), Refusal::UnfitFate)?;
+    refuse_if(is_answered(fate) && at_top, Refusal::AtTop)
+}
 
 pub fn take(
     shape: Shape,
@@ -21,18 +40,8 @@ pub fn take(
 ) -> Outcome
     ensures { result_of result media.now tables.now ≡ step shape (state_of records media.now tables.now) (input_of (call.Take server fate) []) }
 {
-    let phases = Phases {
-        idle: true,
-        opening: false,
-        open: false,
-    };
-    let g = records.register;
-    let late = both(is_answered(fate), at_top(g.session));
-    let k = checks::admit_phase(shape, records, media.len(), tables.len(), server, phases);
-    let k = also(k, is_cut(fate), Refusal::UnfitFate);
-    let k = also(k, late, Refusal::AtTop);
-    match k {
-        Check::Refuse(why) => checks::declined(records, why),
-        Check::Pass => settle(records, server as usize, taken(g, fate)),
+    match judge(shape, records, media.len(), tables.len(), server, fate) {
+        Err(why) => checks::declined(records, why),
+        Ok(()) => settle(records, server as usize, taken(records.register, fate)),
     }
 }

@@ -22,51 +22,33 @@ pub struct Registered {
 pub fn is_cut(f: Fate) -> bool
     ensures { result ≡ is_cut f }
 {
-    match f {
-        Fate::Answered => false,
-        Fate::Lost => false,
-        Fate::AnswerLost => false,
-        Fate::Cut(_, _) => true,
-    }
+    matches!(f, Fate::Cut(_, _))
 }
 
+// replica's `answers` says the same, and the definition's crate is above fate's.
 pub fn is_answered(f: Fate) -> bool
     ensures { result ≡ answered f }
 {
-    match f {
-        Fate::Answered => true,
-        Fate::Lost => false,
-        Fate::AnswerLost => false,
-        Fate::Cut(_, _) => false,
-    }
+    matches!(f, Fate::Answered)
 }
 
 // Whether the message arrives, answered or not.
 pub fn does_arrive(f: Fate) -> bool
     ensures { result ≡ arrives f }
 {
-    match f {
-        Fate::Answered => true,
-        Fate::Lost => false,
-        Fate::AnswerLost => true,
-        Fate::Cut(_, _) => false,
-    }
+    matches!(f, Fate::Answered | Fate::AnswerLost)
 }
 
 // Register and server are replaced once a call.
-pub fn settle(records: Records, i: usize, c: Registered) -> Outcome
+pub fn settle(mut records: Records, i: usize, c: Registered) -> Outcome
     requires { i < 4 }
     ensures { result ≡ settled records i c }
 {
-    let g = c.register;
-    let s = c.server;
-    let a = c.answer;
-    let mut next = records;
-    next.register = g;
-    next.servers[i] = s;
+    records.register = c.register;
+    records.servers[i] = c.server;
     Outcome {
-        records: next,
-        answer: a,
+        records,
+        answer: c.answer,
         bytes: [0; PLACE],
     }
 }

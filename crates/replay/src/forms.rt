@@ -1,66 +1,74 @@
-// The forms of the lines. A line's kind is a number:
-//   0 take, 1 prepare, 2 copy, 3 trim, 4 open, 5 send, 6 note, 7 read: calls with a fate; 8 issue, 9 stop, 10 reassign
-//   11 shape, 12 register, 13 entry, 14 server, 15 handed, 16 replica: numbers that are held; 17 lend; 18 locks
-//   19 held, 20 given, 21 data, 22 media: their last field is BYTES; 23 table; 24 fresh
-//   25 export: its last field is BYTES, its key
-//   26 recover: its last two fields are BYTES
-//   27 backup: its last field is BYTES; 28 keep; 29 restore, a call
-//   30 for a line that fits no form
+// The forms of the lines.
+use crate::calls::Name;
+use crate::lent::Slice;
 use replay_state::fields;
+use replay_state::lines::Part;
 use text::line;
 
-const NONE: u64 = 30;
-
-// Which of the words this is, from 0; how many there are where it is none.
-fn find(words: &[u8], word: &[u8]) -> u64 {
-    let mut rest = words;
-    let mut i = 0;
-    while i < NONE {
-        if check::same(line::first(rest), word) {
-            return i;
-        }
-        let next = line::behind(rest);
-        rest = next;
-        i += 1;
-    }
-    i
+// What a line does: it makes a call, an export or a recovery, or hands in what is held or about what is lent.
+#[derive(Clone, Copy, PartialEq, Eq)]
+pub enum Kind {
+    Call(Name),
+    Export,
+    Recover,
+    Part(Part),
+    Lent(Slice),
 }
 
-// How many fields a line of this kind has, its word among them.
-fn count(kind: u64) -> usize {
-    match kind {
-        10 => 1,
-        9 | 20 | 21 | 28 | 29 => 2,
-        12 | 17 | 22 => 3,
-        11 | 19 | 23 | 24 | 27 => 4,
-        0 | 4 | 13 | 16 => 5,
-        1 | 3 | 5 | 6 | 15 | 26 => 6,
-        2 | 7 => 7,
-        25 => 10,
-        _ => 8,
-    }
+// A word's kind, how many fields its lines have, and how many of them are no numbers: the word, and BYTES.
+#[derive(Clone, Copy)]
+struct Form(Kind, usize, usize);
+
+fn form_of(word: &[u8]) -> Option<Form> {
+    let form = match word {
+        b"take" => Form(Kind::Call(Name::Take), 5, 1),
+        b"prepare" => Form(Kind::Call(Name::Prepare), 6, 1),
+        b"copy" => Form(Kind::Call(Name::Copy), 7, 1),
+        b"trim" => Form(Kind::Call(Name::Trim), 6, 1),
+        b"open" => Form(Kind::Call(Name::Open), 5, 1),
+        b"send" => Form(Kind::Call(Name::Send), 6, 1),
+        b"note" => Form(Kind::Call(Name::Note), 6, 1),
+        b"read" => Form(Kind::Call(Name::Read), 7, 1),
+        b"issue" => Form(Kind::Call(Name::Issue), 8, 1),
+        b"stop" => Form(Kind::Call(Name::Stop), 2, 1),
+        b"reassign" => Form(Kind::Call(Name::Reassign), 1, 1),
+        b"restore" => Form(Kind::Call(Name::Restore), 2, 1),
+        b"export" => Form(Kind::Export, 10, 2),
+        b"recover" => Form(Kind::Recover, 6, 3),
+        _ => return held_form_of(word),
+    };
+    Some(form)
 }
 
-// How many of them are no numbers: the word, and BYTES.
-fn others(kind: u64) -> usize {
-    match kind {
-        19..=22 | 25 | 27 => 2,
-        26 => 3,
-        _ => 1,
-    }
+// The same of the lines that hand something in.
+fn held_form_of(word: &[u8]) -> Option<Form> {
+    let form = match word {
+        b"shape" => Form(Kind::Part(Part::Shape), 4, 1),
+        b"register" => Form(Kind::Part(Part::Register), 3, 1),
+        b"entry" => Form(Kind::Part(Part::Entry), 5, 1),
+        b"server" => Form(Kind::Part(Part::Server), 8, 1),
+        b"handed" => Form(Kind::Part(Part::Handed), 6, 1),
+        b"replica" => Form(Kind::Part(Part::Replica), 5, 1),
+        b"locks" => Form(Kind::Part(Part::Locks), 9, 1),
+        b"held" => Form(Kind::Part(Part::Held), 4, 2),
+        b"given" => Form(Kind::Part(Part::Given), 2, 2),
+        b"data" => Form(Kind::Part(Part::Data), 2, 2),
+        b"lend" => Form(Kind::Lent(Slice::Lend), 3, 1),
+        b"media" => Form(Kind::Lent(Slice::Media), 3, 2),
+        b"table" => Form(Kind::Lent(Slice::Table), 4, 1),
+        b"fresh" => Form(Kind::Lent(Slice::Fresh), 4, 1),
+        b"backup" => Form(Kind::Lent(Slice::Backup), 4, 2),
+        b"keep" => Form(Kind::Lent(Slice::Keep), 2, 1),
+        _ => return None,
+    };
+    Some(form)
 }
 
-// The kind of a line.
-pub fn kind(line: &[u8]) -> u64 {
-    let k = find(
-        b"take\tprepare\tcopy\ttrim\topen\tsend\tnote\tread\tissue\tstop\treassign\tshape\tregister\tentry\tserver\thanded\treplica\tlend\tlocks\theld\tgiven\tdata\tmedia\ttable\tfresh\texport\trecover\tbackup\tkeep\trestore",
-        line::first(line),
-    );
-    if k == 18 {
-        return k;
+// The kind of a line, if its fields are as many as its form says, and numbers. A line of locks may have fewer.
+pub fn kind_of(line: &[u8]) -> Option<Kind> {
+    let Form(kind, count, others) = form_of(line::first(line))?;
+    if kind == Kind::Part(Part::Locks) || fields::fit(line, count, others) {
+        return Some(kind);
     }
-    if fields::fit(line, count(k), others(k)) {
-        return k;
-    }
-    NONE
+    None
 }

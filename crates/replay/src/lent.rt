@@ -3,12 +3,31 @@ ghost use Rattle.std.specs.Prelude.{◌≡◌, ◌*◌, ◌≤◌, length};
 ghost use Rattle.storage.specs.Sizes.{medium_size};
 
 use crate::backups;
+use crate::memory::{MEDIA, Memory, TABLES};
 use cluster::Shape;
-use replay_state::cells::{Cells, LENT, SHAPE};
-use replay_state::{cells, fields, records, state};
+use crc32::Tables;
+use replay_state::fields;
+use replay_state::state::{Lengths, State};
 use run_lines::digits;
-use storage::sizes::{PLACE, SLOTS};
+use storage::sizes::medium_size;
 use text::line;
+
+// What a line is about.
+#[derive(Clone, Copy, PartialEq, Eq)]
+pub enum Slice {
+    // lend, bytes of the media, marks of the lock tables: the lengths of the slices lent from now on.
+    Lend,
+    // media, offset, BYTES.
+    Media,
+    // table, index, count, mark: so many marks of the lock tables become this one.
+    Table,
+    // fresh, R, N, K: a fresh cluster of any R up to 7.
+    Fresh,
+    // backup, length, offset, BYTES: so many bytes are lent from now on, and these are among them.
+    Backup,
+    // keep, replica: the bytes of its medium are those for a restore.
+    Keep,
+}
 
 // The most replicas and places of a fresh cluster.
 const REPLICAS: u64 = 7;
@@ -16,7 +35,7 @@ const REPLICAS: u64 = 7;
 const PLACES: u64 = 14;
 
 // Marks of four lock tables.
-const TABLES: usize = 4096;
+const MARKS: usize = 4096;
 
 // The bytes of a cluster's media.
 fn size(h: Shape) -> usize
@@ -24,116 +43,81 @@ fn size(h: Shape) -> usize
     requires places_bound { h.places ≤ 14 }
     ensures { result ≡ h.replicas * medium_size h.places }
 {
-    let places = h.places as usize;
-    (h.replicas as usize) * (SLOTS + PLACE * places)
+    (h.replicas as usize) * medium_size(h.places)
 }
 
 // A fresh cluster in slices of its lengths, which are lent from now on.
-fn begin(shape: Shape, m: &mut [u8], tables: &mut [u64], w: &mut Cells)
+fn begin(shape: Shape, media: &mut [u8], tables: &mut [u64], state: &mut State)
     requires places_bound { shape.places ≤ 14 }
-    requires m_len { length m.old ≡ shape.replicas * medium_size shape.places }
+    requires media_len { length media.old ≡ shape.replicas * medium_size shape.places }
     requires tables_len { length tables.old ≡ 4096 }
 {
-    let t = crc32::tables();
-    records::put_all(w, fresh::start(&t, shape, m, tables));
-    let n = [
-        shape.replicas,
-        shape.places,
-        shape.interval,
-        m.len() as u64,
-        tables.len() as u64,
-    ];
-    cells::put_run(w, SHAPE, &n);
+    let t = Tables::new();
+    state.records = fresh::start(&t, shape, media, tables);
+    state.shape = shape;
+    state.lent = Lengths {
+        media: media.len(),
+        tables: tables.len(),
+        backup: state.lent.backup,
+    };
 }
 
-// fresh, R, N, K: a fresh cluster of any R up to 7.
-fn fresh_line(line: &[u8], m: &mut [u8], tables: &mut [u64], w: &mut Cells) -> bool {
-    let shape = Shape {
-        replicas: fields::at(line, 1),
-        places: fields::at(line, 2),
-        interval: fields::at(line, 3),
-    };
+fn put_fresh(line: &[u8], memory: &mut Memory) -> Option<()> {
+    let shape = fields::shape(line);
     if REPLICAS < shape.replicas || PLACES < shape.places {
-        return false;
+        return None;
     }
     let n = size(shape);
-    if m.len() < n || tables.len() < TABLES {
-        return false;
+    let Memory {
+        media,
+        tables,
+        state,
+        ..
+    } = memory;
+    let (media, tables) = (&mut media[..], &mut tables[..]);
+    if media.len() < n || tables.len() < MARKS {
+        return None;
     }
-    begin(shape, &mut m[0..n], &mut tables[0..TABLES], w);
-    true
+    begin(shape, &mut media[..n], &mut tables[..MARKS], state);
+    Some(())
 }
 
-// lend, bytes of the media, marks of the lock tables: the lengths of the slices lent from now on.
-fn lend(line: &[u8], w: &mut Cells) -> bool {
-    if (crate::MEDIA as u64) < fields::at(line, 1) {
-        return false;
-    }
-    if (crate::TABLES as u64) < fields::at(line, 2) {
-        return false;
-    }
-    fields::store(line, 1, 2, w, LENT);
-    true
+fn put_lengths(line: &[u8], lent: &mut Lengths) -> Option<()> {
+    let media = fields::up_to(line, 1, MEDIA)?;
+    let tables = fields::up_to(line, 2, TABLES)?;
+    lent.media = media;
+    lent.tables = tables;
+    Some(())
 }
 
 // The bytes that field k + 1 has, from the offset that field k is.
-pub fn bytes(line: &[u8], k: usize, m: &mut [u8]) -> bool
+pub fn put_bytes(line: &[u8], k: usize, all: &mut [u8]) -> Option<()>
     requires { k ≤ 8 }
 {
-    let a = fields::at(line, k);
+    let at = fields::up_to(line, k, all.len())?;
     let s = line::field(line, k + 1);
-    if (m.len() as u64) < a {
-        return false;
-    }
-    let at = a as usize;
     let n = s.len() / 2;
-    if m.len() - at < n {
-        return false;
+    if n <= all.len() - at && digits::read(s, &mut all[at..at + n]) {
+        return Some(());
     }
-    let e = at + n;
-    digits::read(s, &mut m[at..e])
+    None
 }
 
-fn fill(tables: &mut [u64], v: u64) {
-    let mut i = 0;
-    while i < tables.len() {
-        tables[i] = v;
-        i += 1;
-    }
+fn put_marks(line: &[u8], tables: &mut [u64]) -> Option<()> {
+    let at = fields::up_to(line, 1, tables.len())?;
+    let n = fields::up_to(line, 2, tables.len() - at)?;
+    tables[at..at + n].fill(fields::at(line, 3));
+    Some(())
 }
 
-// table, index, count, mark: so many marks of the lock tables become this one.
-fn table(line: &[u8], tables: &mut [u64]) -> bool {
-    let a = fields::at(line, 1);
-    let k = fields::at(line, 2);
-    if (tables.len() as u64) < a {
-        return false;
-    }
-    let at = a as usize;
-    if ((tables.len() - at) as u64) < k {
-        return false;
-    }
-    let e = at + k as usize;
-    fill(&mut tables[at..e], fields::at(line, 3));
-    true
-}
-
-// media, offset, BYTES, beside the lines of the others.
-pub fn hand_in(
-    line: &[u8],
-    kind: u64,
-    m: &mut [u8; crate::MEDIA],
-    tables: &mut [u64; crate::TABLES],
-    backup: &mut [u8; crate::BACKUP],
-    w: &mut Cells,
-) -> bool {
-    match kind {
-        17 => lend(line, w),
-        22 => bytes(line, 1, m),
-        23 => table(line, tables),
-        24 => fresh_line(line, m, tables, w),
-        27 => backups::hand_in(line, backup, w),
-        28 => backups::keep(line, m, backup, w),
-        _ => state::hand_in(line, kind, w),
+// What a line hands in is lent from now on; `None` where the line does not fit.
+pub fn hand_in(line: &[u8], slice: Slice, memory: &mut Memory) -> Option<()> {
+    match slice {
+        Slice::Lend => put_lengths(line, &mut memory.state.lent),
+        Slice::Media => put_bytes(line, 1, &mut memory.media),
+        Slice::Table => put_marks(line, &mut memory.tables),
+        Slice::Fresh => put_fresh(line, memory),
+        Slice::Backup => backups::put(line, memory),
+        Slice::Keep => backups::keep(line, memory),
     }
 }

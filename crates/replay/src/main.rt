@@ -4,9 +4,9 @@
 // (twin/src/replay.rs; its replay writes both files).
 #![tactic(auto)]
 
-ghost use Rattle.std.specs.Prelude.{◌+◌, ◌≤◌, length, IfOk};
+ghost use Rattle.std.specs.Prelude.{◌≤◌};
 
-use replay_state::cells::{ALL, Cells};
+use crate::memory::Memory;
 use std::io;
 use std::io::{Read, Write};
 
@@ -16,102 +16,76 @@ mod calls;
 mod export;
 mod forms;
 mod lent;
+mod memory;
 mod perform;
 mod recoveries;
 
 // The longest line that is answered.
 const LIMIT: usize = 2000;
 
-// Bytes for media and marks for lock tables, some more than any cluster here has: a call can be lent too much.
-pub const MEDIA: usize = 8008;
-
-pub const TABLES: usize = 4100;
-
-// Bytes for a restore: a medium of 15 places.
-pub const BACKUP: usize = 1144;
-
-// The next byte of the input, if there is one.
-fn next(input: &mut impl Read) -> io::Result<Option<u8>> {
-    let mut b = [0u8; 1];
-    if input.read(&mut b)? == 0 {
-        return Ok(None);
-    }
-    Ok(Some(b[0]))
+// A line as far as it is read. Its length is beside it, as there is no heap; of one that is too long it is one more than can be held.
+#[derive(Clone, Copy)]
+struct Line {
+    bytes: [u8; LIMIT],
+    length: usize,
+    ghost in_range: { length ≤ 2001 },
 }
 
-// One more byte of a line of n: how many there are now, at most one above what can be held.
-fn put(line: &mut [u8], n: usize, b: u8) -> usize {
-    if line.len() <= n {
-        return line.len() + 1;
-    }
-    line[n] = b;
-    n + 1
-}
-
-// One more than the length of a line; a line that is too long is answered as an empty one, which is bad as well.
-fn ended(line: &[u8], n: usize) -> usize
-    ensures { result ≤ length line.now + 1 }
-{
-    if line.len() < n {
-        return 1;
-    }
-    n + 1
-}
-
-// Reads a line and answers one more than its length; 0 at the end of the input. A proved loop has to end, and nothing says that the
-// input does: so it counts its turns up, to a number that no run comes to.
-fn read(input: &mut impl Read, line: &mut [u8]) -> io::Result<usize>
-    ensures { IfOk result (λ n. n ≤ length line.old + 1) }
-{
-    let mut n = 0;
-    for _ in 0..u64::MAX {
-        let Some(b) = next(input)? else {
-            break;
-        };
-        if b == b'\n' {
-            return Ok(ended(line, n));
+impl Line {
+    fn new() -> Line {
+        Line {
+            bytes: [0; LIMIT],
+            length: 0,
         }
-        n = put(line, n, b);
     }
-    if n == 0 {
-        return Ok(0);
+
+    fn push(&mut self, b: u8) {
+        if self.length < LIMIT {
+            self.bytes[self.length] = b;
+        }
+        self.length = (self.length + 1).min(LIMIT + 1);
     }
-    Ok(ended(line, n))
+
+    // A line that is too long is answered as an empty one, which is bad as well.
+    fn text(&self) -> &[u8] {
+        if LIMIT < self.length {
+            return &[];
+        }
+        &self.bytes[..self.length]
+    }
 }
 
-// Answers every line; the answer to a line is written before the next is read.
+// The answer to a line is written before the next is read.
+fn finish(to: &mut impl Write, line: &mut Line, memory: &mut Memory) -> io::Result<()> {
+    answer::answer(to, line.text(), memory)?;
+    line.length = 0;
+    to.flush()
+}
+
+// Answers every line.
 fn run(
     input: &mut impl Read,
     to: &mut impl Write,
-    m: &mut [u8; MEDIA],
-    tables: &mut [u64; TABLES],
-    backup: &mut [u8; BACKUP],
-    w: &mut Cells,
+    line: &mut Line,
+    memory: &mut Memory,
 ) -> io::Result<()> {
-    let mut line = [0u8; LIMIT];
-    for _ in 0..u64::MAX {
-        let n = read(input, &mut line)?;
-        if n == 0 {
-            break;
+    for b in input.bytes() {
+        match b? {
+            b'\n' => finish(to, line, memory)?,
+            b => line.push(b),
         }
-        let fits = answer::fits(to, &line[0..n - 1], m, tables, backup, w)?;
-        answer::told(to, fits)?;
-        to.flush()?;
+    }
+    if 0 < line.length {
+        finish(to, line, memory)?;
     }
     Ok(())
 }
 
 fn main(rt: HostRuntime) -> io::Result<()> {
-    let mut m = [0u8; MEDIA];
-    let mut tables = [0u64; TABLES];
-    let mut backup = [0u8; BACKUP];
-    let mut w = [0u64; ALL];
     run(
         &mut rt.stdin(),
         &mut rt.stdout(),
-        &mut m,
-        &mut tables,
-        &mut backup,
-        &mut w,
+        &mut Line::new(),
+        &mut Memory::new(),
     )
 }

@@ -1,33 +1,34 @@
 // A call made on what is held, its reply and the check sums after it; the line is ended by whoever asks for it.
-ghost use Rattle.std.specs.Prelude.{◌≤◌};
-
-use cluster::{Answer, Call, Outcome, Refusal, Shape};
-use replay_state::cells::{BACKUP, COUNT, Cells, DATA, GIVEN, LENT, LOCKS, SHAPE, SIZE};
-use replay_state::{cells, records, sums};
+use crate::memory::{BACKUP, MEDIA, Memory, TABLES};
+use cluster::{Answer, Call, Outcome, Refusal};
+use replay_state::sums;
 use run_lines::print;
 use segment::header::Stamp;
 use std::io;
 use std::io::Write;
 use storage::sizes::Place;
 
-// The lock and its estimate stand behind number 15.
-fn print_refusal(to: &mut impl Write, why: Refusal) -> io::Result<()> {
-    print::text(to, b"no")?;
-    print::next(to, replies::number_of(why))?;
-    if let Refusal::Locked(lock, estimate) = why {
-        print::next(to, lock)?;
-        print::next(to, estimate)?;
-    }
-    Ok(())
+// What an export is lent beside the media.
+#[derive(Drop)]
+pub struct Files<'a> {
+    pub stamp: Stamp,
+    pub data: &'a mut [u8],
+    pub index: &'a mut [u8],
 }
 
-pub fn print_answer(to: &mut impl Write, a: Answer) -> io::Result<()> {
-    match a {
+// The lock and its estimate stand behind number 15.
+fn print_refusal(to: &mut impl Write, why: Refusal) -> io::Result<()> {
+    let number = replies::number_of(why);
+    match why {
+        Refusal::Locked(lock, estimate) => write!(to, "no\t{number}\t{lock}\t{estimate}"),
+        _ => write!(to, "no\t{number}"),
+    }
+}
+
+pub fn print_answer(to: &mut impl Write, answer: Answer) -> io::Result<()> {
+    match answer {
         Answer::Done => print::text(to, b"ok"),
-        Answer::Value(v) => {
-            print::text(to, b"ok")?;
-            print::next(to, v)
-        }
+        Answer::Value(v) => write!(to, "ok\t{v}"),
         Answer::Silent => print::text(to, b"silent"),
         Answer::Declined(why) => print_refusal(to, why),
     }
@@ -43,124 +44,67 @@ fn print_bytes(to: &mut impl Write, b: &Place) -> io::Result<()> {
 }
 
 pub fn print_sum(to: &mut impl Write, sum: u32) -> io::Result<()> {
-    let mut out = [0u8; 4];
-    octets::set_be(&mut out, sum as u64);
-    print::text(to, b"\t")?;
-    print::digits(to, &out)
+    write!(to, "\t{sum:08X}")
 }
 
-pub fn least(a: u64, b: usize) -> usize
-    ensures { result ≤ b }
-{
-    if a < (b as u64) { a as usize } else { b }
+pub fn print_sums(to: &mut impl Write, memory: &Memory) -> io::Result<()> {
+    print_sum(to, sums::of_records(&memory.state.records))?;
+    print_sum(to, sums::of_bytes(memory.media()))?;
+    print_sum(to, sums::of(memory.tables()))
 }
 
-// As many of the locks as there are.
-fn locks(w: &Cells) -> &[u64] {
-    let e = LOCKS + least(cells::at(w, COUNT), 8);
-    let all = &w[..];
-    &all[LOCKS..e]
-}
-
-pub fn shape(w: &Cells) -> Shape {
-    Shape {
-        replicas: cells::at(w, SHAPE),
-        places: cells::at(w, SHAPE + 1),
-        interval: cells::at(w, SHAPE + 2),
-    }
-}
-
-// As many of the bytes as there are.
-fn some(b: &[u8], n: u64) -> &[u8] {
-    let k = least(n, b.len());
-    &b[0..k]
-}
-
-// The call with what lies beside it, as much of each as there is.
-fn apply(
-    call: Call,
-    stamp: Stamp,
-    file: &mut [u8],
-    index: &mut [u8],
-    m: &mut [u8],
-    tables: &mut [u64],
-    backup: &[u8],
-    w: &Cells,
-) -> Outcome {
-    let data = cells::bytes(w, DATA);
-    let given = cells::bytes(w, GIVEN);
-    let n = cells::at(w, SIZE);
-    apply::apply(
-        shape(w),
-        records::of(w),
-        m,
+// The call with what lies beside it; the slices are lent at the lengths that are held.
+fn apply(call: Call, files: Files<'_>, memory: &mut Memory) -> Outcome {
+    let Files { stamp, data, index } = files;
+    let Memory {
+        media,
         tables,
+        backup,
+        state,
+    } = memory;
+    let (media, tables, backup) = (&mut media[..], &mut tables[..], &backup[..]);
+    let lent = state.lent;
+    let state = &*state;
+    apply::apply(
+        state.shape,
+        state.records,
+        &mut media[..lent.media.min(MEDIA)],
+        &mut tables[..lent.tables.min(TABLES)],
         call,
-        some(&data, n),
-        locks(w),
-        &given,
+        state.data(),
+        state.locks(),
+        &state.given,
         stamp,
-        file,
+        data,
         index,
-        some(backup, cells::at(w, BACKUP)),
+        &backup[..lent.backup.min(BACKUP)],
     )
 }
 
-// The records that a call leaves are held, and the answer is printed.
-fn keep(to: &mut impl Write, o: Outcome, w: &mut Cells) -> io::Result<()> {
-    let records = o.records;
-    let answer = o.answer;
-    let bytes = o.bytes;
-    records::put_all(w, records);
-    print_answer(to, answer)?;
-    print_bytes(to, &bytes)
-}
-
-pub fn print_sums(to: &mut impl Write, m: &[u8], tables: &[u64], w: &Cells) -> io::Result<()> {
-    print_sum(to, sums::of_records(w))?;
-    print_sum(to, sums::of_bytes(m))?;
-    print_sum(to, sums::of(tables))
-}
-
-fn make(
-    to: &mut impl Write,
-    call: Call,
-    stamp: Stamp,
-    file: &mut [u8],
-    index: &mut [u8],
-    m: &mut [u8],
-    tables: &mut [u64],
-    backup: &[u8],
-    w: &mut Cells,
-) -> io::Result<()> {
-    let o = apply(call, stamp, file, index, m, tables, backup, w);
-    keep(to, o, w)?;
-    print_sums(to, m, tables, w)
-}
-
-// The slices are lent at the lengths that are held.
+// The records that the call leaves are held.
 pub fn perform(
     to: &mut impl Write,
     call: Call,
-    stamp: Stamp,
-    file: &mut [u8],
-    index: &mut [u8],
-    m: &mut [u8],
-    tables: &mut [u64],
-    backup: &[u8],
-    w: &mut Cells,
+    files: Files<'_>,
+    memory: &mut Memory,
 ) -> io::Result<()> {
-    let a = least(cells::at(w, LENT), m.len());
-    let b = least(cells::at(w, LENT + 1), tables.len());
-    make(
-        to,
-        call,
-        stamp,
-        file,
-        index,
-        &mut m[0..a],
-        &mut tables[0..b],
-        backup,
-        w,
-    )
+    let outcome = apply(call, files, memory);
+    memory.state.records = outcome.records;
+    print_answer(to, outcome.answer)?;
+    print_bytes(to, &outcome.bytes)?;
+    print_sums(to, memory)
+}
+
+// No other call than an export is lent files.
+pub fn without_files(to: &mut impl Write, call: Call, memory: &mut Memory) -> io::Result<()> {
+    let files = Files {
+        stamp: Stamp {
+            time: 0,
+            key: [0; 16],
+        },
+        data: &mut [],
+        index: &mut [],
+    };
+    perform(to, call, files, memory)?;
+    print::text(to, b"\n")
 }

@@ -1,51 +1,56 @@
 // The numbers among a line's fields.
-ghost use Rattle.std.specs.Prelude.{◌≤◌};
+ghost use Rattle.std.specs.Prelude.{◌<◌, ◌≤◌, IfSome};
 
-use crate::cells;
-use crate::cells::Cells;
-use text::number::Number;
+use cluster::Shape;
 use text::{line, number};
 
-// Whether the fields behind the first are numbers, of n all but as many as others.
-fn are_numbers(line: &[u8], n: usize, others: usize) -> bool {
+// Whether the n fields behind the first are numbers. It goes by `behind`, the definition's own step: `split` is no plainer.
+fn are_numbers(line: &[u8], n: usize) -> bool {
     let mut rest = line;
-    let mut left = n;
-    while others < left {
-        let next = line::behind(rest);
-        rest = next;
-        let Number::Is(_) = number::decimal(line::first(rest)) else {
+    for _ in 0..n {
+        rest = line::behind(rest);
+        if number::decimal(line::first(rest)).is_none() {
             return false;
-        };
-        left -= 1;
+        }
     }
     true
 }
 
 // Whether a line has n fields, and behind its first numbers, where so many in all are none.
 pub fn fit(line: &[u8], n: usize, others: usize) -> bool {
-    if line::count(line) != n {
-        return false;
-    }
-    are_numbers(line, n, others)
+    line::count(line) == n && are_numbers(line, n.saturating_sub(others))
 }
 
 // The number that field k is; 0 where it is none.
 pub fn at(line: &[u8], k: usize) -> u64 {
-    let Number::Is(v) = number::decimal(line::field(line, k)) else {
-        return 0;
-    };
-    v
+    number::decimal(line::field(line, k)).unwrap_or(0)
 }
 
-// The n numbers from field k on become those held from number i on.
-pub fn store(line: &[u8], k: usize, n: usize, w: &mut Cells, i: usize)
-    requires k_bound { k ≤ 8 }
-    requires n_bound { n ≤ 8 }
-    requires i_bound { i ≤ 600 }
+// The same, if it is below a limit: the number of a server, a replica or the like.
+pub fn below(line: &[u8], k: usize, limit: usize) -> Option<usize>
+    ensures { IfSome result (λ i. i < limit) }
 {
-    let mut j = 0;
-    while j < n {
-        cells::put(w, i + j, at(line, k + j));
-        j += 1;
+    up_to(line, k, limit.checked_sub(1)?)
+}
+
+// The same, if it is no more than the most: a length, or where something begins.
+pub fn up_to(line: &[u8], k: usize, most: usize) -> Option<usize>
+    ensures { IfSome result (λ n. n ≤ most) }
+{
+    let v = at(line, k);
+    (v <= most as u64).then_some(v as usize)
+}
+
+// The same, if 32 bits hold it.
+pub fn word(line: &[u8], k: usize) -> Option<u32> {
+    u32::try_from(at(line, k)).ok()
+}
+
+// R, N and K behind the first field.
+pub fn shape(line: &[u8]) -> Shape {
+    Shape {
+        replicas: at(line, 1),
+        places: at(line, 2),
+        interval: at(line, 3),
     }
 }

@@ -8,6 +8,7 @@ use lib.ListN.{length}
 use native.Mathlib.Omega.{arith}
 use lib.Dec.{ltb, eqb}
 use borrow.Author.Tests.{eqb-true, not-false}
+use Rattle.std.specs.Prelude.{⊤, Result, Ok, Err, is_err}
 use Rattle.fate.specs.declared.Fate.{Fate}
 use Rattle.fate.specs.declared.Fate.TheVariants.{Answered, Lost, AnswerLost, Cut}
 use Rattle.fate.specs.Fates.{Write, all_of, after}
@@ -22,6 +23,7 @@ use Rattle.storage.specs.Sizes.{place_size, medium_size}
 use Rattle.storage.specs.Operations.{writes_of, HasPlace, MarkKnown}
 use Rattle.storage.specs.AsRead.{AsRead}
 use Rattle.storage.proofs.Marks.{performed_mark}
+use Rattle.cluster.specs.declared.Refusal.{Refusal}
 use Rattle.cluster.specs.Refusals.{answered, is_neither, no_slot, promise_above, promise_differs, mark_differs, refuses}
 use Rattle.replica_checks.specs.declared.Heard.{Heard}
 use Rattle.replica_checks.specs.declared.Heard.TheVariants.{Silent, Mark}
@@ -54,6 +56,11 @@ all_made Answered g m ws e = refl
 all_made Lost g m ws e = let z : ◌≡◌ {A = ℕ} 0 1 = cc in absurd (omega arith)
 all_made AnswerLost g m ws e = refl
 all_made (Cut w l) g m ws e = let z : ◌≡◌ {A = ℕ} 0 1 = cc in absurd (omega arith)
+
+-- a judgement that is no refusal
+pub no_err : (r : Result ⊤ Refusal) → ((why : Refusal) → r ≡ Err why → ⊥) → is_err r ≡ false
+no_err (Ok u) n = refl
+no_err (Err why) n = absurd (n why refl)
 
 -- what is heard of a message that is answered, or is not
 pub heard_mark : (f : Fate) (k n N : ℕ) (m : List ℕ) → answered f ≡ true → n ≡ N → k ≡ mark_of n m → Mark k ≡ when_answered f (Mark (mark_of N m))

@@ -2,8 +2,6 @@
 #![tactic(auto)]
 
 ghost use Rattle.std.specs.Prelude.{◌≡◌, ◌<◌, length};
-ghost use Rattle.crc32.specs.Tables.{tables_of};
-ghost use Rattle.storage.specs.Sizes.{place_size};
 ghost use Rattle.storage.specs.Operations.{HasPlace};
 ghost use Rattle.cluster.specs.Refusals.{answered, refuses};
 ghost use Rattle.replica.specs.Answers.{when_answered, prepares, Answered, answer_to, read_heard, Medium, Behind};
@@ -13,16 +11,13 @@ use fate::Fate;
 use medium::operation;
 use replica_checks::{Heard, judged};
 use storage::operation::Operation;
+use storage::sizes::Place;
 
+// register_message's `is_answered` says the same: `answered` is a definition of cluster's, which stands above fate, so neither function can go there.
 fn answers(f: Fate) -> bool
     ensures { result ≡ answered f }
 {
-    match f {
-        Fate::Answered => true,
-        Fate::Lost => false,
-        Fate::AnswerLost => false,
-        Fate::Cut(_, _) => false,
-    }
+    matches!(f, Fate::Answered)
 }
 
 fn under(f: Fate, h: Heard) -> Heard
@@ -34,12 +29,7 @@ fn under(f: Fate, h: Heard) -> Heard
 fn is_prepare(op: Operation) -> bool
     ensures { result ≡ prepares op }
 {
-    match op {
-        Operation::Prepare(_, _) => true,
-        Operation::Trim(_) => false,
-        Operation::Note(_, _) => false,
-        Operation::Append(_) => false,
-    }
+    matches!(op, Operation::Prepare(_, _))
 }
 
 // The answer to an operation, and its writes under the message's fate. The record of an append lies beside it in `src`.
@@ -51,24 +41,20 @@ pub fn answer(
     session: u64,
     recorded: u64,
     op: Operation,
-    src: &[u8],
-    given: &[u8],
+    src: &Place,
+    given: &Place,
     f: Fate,
 ) -> Heard
-    requires t_value { t.now ≡ tables_of }
     requires medium { Medium places (length m.old) }
     requires has_place { (HasPlace places op) × (Behind recorded op) }
-    requires src_len { (length src.now ≡ place_size) × (length given.now ≡ place_size) }
     ensures { record { heard = result; medium = m.new } ≡ answer_to places session recorded op src.now f given.now m.old }
 {
-    if let Fate::Lost = f {
+    if matches!(f, Fate::Lost) {
         return Heard::Silent;
     }
     let r = operation::read_medium(t, m, places as usize);
-    let j = judged(r, session, recorded, is_prepare(op));
-    let h = j.heard;
-    if j.declines {
-        return under(f, h);
+    if let Err(why) = judged(r, session, recorded, is_prepare(op)) {
+        return under(f, Heard::Declined(why));
     }
     operation::perform(t, m, r, op, src, given, f);
     if answers(f) {
@@ -79,7 +65,6 @@ pub fn answer(
 
 // read: nothing is written, so a replica whose answer is not heard need not read its medium.
 pub fn read(t: &Tables, m: &[u8], places: u64, session: u64, recorded: u64, f: Fate) -> Heard
-    requires t_value { t.now ≡ tables_of }
     requires medium { Medium places (length m.now) }
     ensures { result ≡ read_heard places session recorded f m.now }
 {
@@ -87,21 +72,17 @@ pub fn read(t: &Tables, m: &[u8], places: u64, session: u64, recorded: u64, f: F
         return Heard::Silent;
     }
     let r = operation::read_medium(t, m, places as usize);
-    let j = judged(r, session, recorded, false);
-    let h = j.heard;
-    if j.declines {
-        return h;
+    match judged(r, session, recorded, false) {
+        Ok(()) => Heard::Mark(r.mark as u64),
+        Err(why) => Heard::Declined(why),
     }
-    Heard::Mark(r.mark as u64)
 }
 
 // Whether a replica would decline a message: what copy asks of the replica that it reads.
 pub fn unfit(t: &Tables, m: &[u8], places: u64, session: u64, recorded: u64) -> bool
-    requires t_value { t.now ≡ tables_of }
     requires medium { Medium places (length m.now) }
     ensures { result ≡ refuses places session recorded m.now }
 {
     let r = operation::read_medium(t, m, places as usize);
-    let j = judged(r, session, recorded, false);
-    j.declines
+    judged(r, session, recorded, false).is_err()
 }

@@ -4,6 +4,7 @@ use mathlib.Core.Path.{◌≡◌, refl, sym, ap, ◌∙◌}
 use mathlib.Core.Bool.{false, ◌||◌, and-false, or-false}
 use mathlib.Core.List.{List, [], ◌∷◌, ◌++◌}
 use Prim.Native.Nat.{ℕ, ◌+◌}
+use Rattle.std.specs.Prelude.{Result, Ok, Err}
 use Rattle.fate.specs.declared.Fate.{Fate}
 use Rattle.storage.specs.declared.operation.Operation.{Operation}
 use Rattle.storage.specs.Operations.{medium_at}
@@ -11,23 +12,21 @@ use Rattle.cluster.specs.declared.Shape.{Shape}
 use Rattle.cluster.specs.declared.Server.{Server}
 use Rattle.cluster.specs.State.{State, server_at, mark_at, record_of}
 use Rattle.cluster.specs.Refusals.{no_replica_at, no_slot, promise_above, answered, seen, replica_rows, prepared_rows, checks_of, pass, first_of}
-use Rattle.cluster.specs.Effects.{Result, prepare_effect, trim_effect, note_effect, append_effect}
+use Rattle.cluster.specs.Effects as effects
+use Rattle.cluster.specs.Effects.{prepare_effect, trim_effect, note_effect, append_effect}
 use Rattle.cluster.specs.Step.{effect, rest, once_admitted, once_sent, step}
 use Rattle.cluster.specs.declared.Records.{Records}
 use Rattle.cluster.specs.declared.Refusal.{Refusal}
 use Rattle.checks.specs.declared.Change.{Change}
 use Rattle.checks.specs.Results.{state_of, input_of, result_of, changed, unchanged}
 use Rattle.checks.proofs.Frame.{refused, goes_on, declined_server}
-use Rattle.plans.specs.declared.Plan.{Plan}
-use Rattle.plans.specs.declared.Plan.TheVariants.{Do, Refuse}
 use Rattle.cluster.proofs.Rows.{passed}
 use Rattle.storage.specs.Operations.{HasPlace}
 use Rattle.replica.specs.Answers.{Behind}
-use Rattle.checks.specs.Verdicts.{verdict_of}
 use Rattle.replica_calls.proofs.Known.{send_room}
 use Rattle.plans.specs.declared.Kind.{Kind}
 use Rattle.plans.specs.declared.Kind.TheVariants.{Prepare, Trim, Note, Send}
-use Rattle.plans.specs.Plans.{call_of, phases_of, sending_rows, operation_of, check_of, Planned}
+use Rattle.plans.specs.Plans.{call_of, phases_of, sending_rows, operation_of, Planned}
 use Rattle.delivery.specs.Messages.{operation_effect, operated, Named}
 
 -- the record that follows replica i's mark: a send appends it
@@ -69,36 +68,37 @@ module _ (h : Shape) (x : State) (s i : ℕ) (f : Fate) (given : List ℕ) where
   sent_is Send = refl
 
 -- a call that is admitted, by the plan that is made for it and the server's record v that the code has in hand
-module _ (h : Shape) (r : Records) (media tables : List ℕ) (s i : ℕ) (f : Fate) (given : List ℕ) (v : Server) (q : server_at r s ≡ v) (k : Kind)
-    {p : Plan} (l : Planned p (first_of (sending_rows k h v i f given)) (operation_of k h.replicas v i))
-  where
-    abbrev y : State
-    y = state_of r media tables
+module _ (h : Shape) (r : Records) (media tables : List ℕ) (s i : ℕ) (f : Fate) (given : List ℕ) (v : Server) (q : server_at r s ≡ v) (k : Kind) where
+  abbrev y : State
+  y = state_of r media tables
 
-    pub plan_refuses :
-        {why : Refusal} {c : Change}
-        → p ≡ Refuse why
-        → c ≡ unchanged v why
-        → result_of (changed r s c) media tables ≡ once_admitted h y (input_of (call_of k s i f) given)
-    plan_refuses {why} {c} e d =
-        rw (sending_is h y s i f given k)
-        (refused r media tables _ (sending_rows k h (server_at r s) i f given) _ {k = check_of p} (rw q l.checked) {o = changed r s c} (ap check_of e)
-        (rw (d, ← q) (declined_server r s why)))
+  abbrev Plans : Result Operation Refusal → Type 0
+  Plans p = Planned p (first_of (sending_rows k h v i f given)) (operation_of k h.replicas v i)
 
-    pub plan_does :
-        {o : Operation} {z : Result} {bs : List ℕ}
-        → p ≡ Do o
-        → bs ≡ following v i
-        → z ≡ operated h y s i o bs f given
-        → z ≡ once_admitted h y (input_of (call_of k s i f) given)
-    plan_does {o} {z} {bs} e same_bytes d =
-        let same : o ≡ operation_of k h.replicas (server_at r s) i = l.does o e ∙ ap (λ (w : Server). operation_of k h.replicas w i) (sym q) in
-        let bytes_are : bs ≡ following (server_at r s) i = same_bytes ∙ ap (λ (w : Server). following w i) (sym q) in
-        rw (sending_is h y s i f given k)
-        (goes_on r media tables _ (sending_rows k h (server_at r s) i f given) _ {k = check_of p} (rw q l.checked) (ap check_of e)
-        (d ∙ ap (λ (u : Operation). operated h y s i u bs f given) same
-        ∙ ap (λ (b : List ℕ). operated h y s i (operation_of k h.replicas (server_at r s) i) b f given) bytes_are
-        ∙ sent_is h y s i f given k))
+  pub plan_refuses :
+      (why : Refusal) {c : Change}
+      → Plans (Err why)
+      → c ≡ unchanged v why
+      → result_of (changed r s c) media tables ≡ once_admitted h y (input_of (call_of k s i f) given)
+  plan_refuses why {c} l d =
+      rw (sending_is h y s i f given k)
+      (refused r media tables _ (sending_rows k h (server_at r s) i f given) _ why {o = changed r s c} (rw q l.checked)
+      (rw (d, ← q) (declined_server r s why)))
+
+  pub plan_does :
+      {o : Operation} {z : effects.Result} {bs : List ℕ}
+      → Plans (Ok o)
+      → bs ≡ following v i
+      → z ≡ operated h y s i o bs f given
+      → z ≡ once_admitted h y (input_of (call_of k s i f) given)
+  plan_does {o} {z} {bs} l same_bytes d =
+      let same : o ≡ operation_of k h.replicas (server_at r s) i = l.does o refl ∙ ap (λ (w : Server). operation_of k h.replicas w i) (sym q) in
+      let bytes_are : bs ≡ following (server_at r s) i = same_bytes ∙ ap (λ (w : Server). following w i) (sym q) in
+      rw (sending_is h y s i f given k)
+      (goes_on r media tables _ (sending_rows k h (server_at r s) i f given) _ (rw q l.checked)
+      (d ∙ ap (λ (u : Operation). operated h y s i u bs f given) same
+      ∙ ap (λ (b : List ℕ). operated h y s i (operation_of k h.replicas (server_at r s) i) b f given) bytes_are
+      ∙ sent_is h y s i f given k))
 
 -- the operation of a plan is one for the replica's medium: 16 of send leaves room for a record
 fits_operation :
@@ -114,10 +114,7 @@ fits_operation Send h v i bytes f given n e = (send_room v (mark_at v i) h.place
 pub fits_kind :
     (k : Kind) (h : Shape) (v : Server) (i bytes : ℕ) (f : Fate) (given : List ℕ)
     → Named h v i bytes
-    → {p : Plan}
-    → Planned p (first_of (sending_rows k h v i f given)) (operation_of k h.replicas v i)
     → {o : Operation}
-    → p ≡ Do o
+    → Planned (Ok o) (first_of (sending_rows k h v i f given)) (operation_of k h.replicas v i)
     → HasPlace h.places o × Behind (mark_at v i) o
-fits_kind k h v i bytes f given n {p} l {o} e =
-    rw (l.does o e) (fits_operation k h v i bytes f given n (sym l.checked ∙ ap (λ (x : Plan). verdict_of (check_of x)) e))
+fits_kind k h v i bytes f given n {o} l = rw (l.does o refl) (fits_operation k h v i bytes f given n (sym l.checked))

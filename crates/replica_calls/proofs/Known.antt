@@ -13,15 +13,13 @@ use Rattle.cluster.specs.declared.Shape.{Shape}
 use Rattle.cluster.specs.declared.Server.{Server}
 use Rattle.cluster.specs.State.{holds}
 use Rattle.cluster.proofs.Window.{within}
-use Rattle.cluster.specs.Refusals.{wrong_phase, not_two, row, replica_rows, first_of}
+use Rattle.cluster.specs.Refusals.{wrong_phase, not_two, row, replica_rows, pass, first_of}
 use Rattle.cluster.specs.declared.Records.{Records}
 use Rattle.cluster.specs.declared.Phases.{Phases}
 use Rattle.cluster.specs.State.{server_at}
-use Rattle.checks.specs.declared.Check.{Check}
-use Rattle.checks.specs.declared.Check.TheVariants.{Pass}
-use Rattle.checks.specs.Verdicts.{verdict_of}
 use Rattle.checks.specs.Results.{state_of}
-use Rattle.checks.proofs.Frame.{Admitted, admitted, holds_not}
+use Rattle.checks.proofs.Behind.{no}
+use Rattle.checks.proofs.Frame.{Admitted, admitted}
 use Rattle.delivery.specs.Messages.{Named}
 
 pub named : (h : Shape) (v : Server) (s i bytes marks : ℕ) → Admitted h v s bytes marks → i < h.replicas → Named h v i bytes
@@ -37,13 +35,12 @@ named h v s i bytes marks a l = record {
 
 -- a call that names replicas and is admitted
 pub admits :
-    (h : Shape) (r : Records) (m t : List ℕ) (s : ℕ) (unnamed : Bool) (phases : Phases) {k : Check}
-    → verdict_of k ≡ first_of (replica_rows h (state_of r m t) s unnamed phases)
-    → k ≡ Pass
+    (h : Shape) (r : Records) (m t : List ℕ) (s : ℕ) (unnamed : Bool) (phases : Phases)
+    → pass ≡ first_of (replica_rows h (state_of r m t) s unnamed phases)
     → Admitted h (server_at r s) s (length m) (length t) × (unnamed ≡ false)
-admits h r m t s unnamed phases v q = (
-  admitted h r m t s (row 4 unnamed ∷ row 5 (wrong_phase phases (server_at r s)) ∷ []) v q,
-  holds_not (replica_rows h (state_of r m t) s unnamed phases) v q 4,
+admits h r m t s unnamed phases e = (
+  admitted h r m t s (row 4 unnamed ∷ row 5 (wrong_phase phases (server_at r s)) ∷ []) e,
+  no (replica_rows h (state_of r m t) s unnamed phases) e 4,
 )
 
 -- 16 of send and of copy: the place behind the mark is one of the medium's

@@ -8,11 +8,12 @@ ghost use Rattle.checks.specs.Results.{state_of, input_of, result_of, changed};
 ghost use Rattle.plans.specs.Plans.{call_of, phases_of};
 ghost use Rattle.delivery.specs.Messages.{Named};
 
-use checks::{Change, Check, admit_replica, declined, settle, unchanged_server};
+use checks::{Change, ONLY_OPEN, ONLY_OPENING, admit_replica, declined, settle, unchanged_server};
 use cluster::{Outcome, Phases, Records, Server, Shape};
+use crc32::Tables;
 use delivery::deliver;
 use fate::Fate;
-use plans::{Kind, Plan, plan_of};
+use plans::{Kind, plan_of};
 use servers::held::record_of;
 use storage::sizes::Place;
 
@@ -20,26 +21,8 @@ fn phases_of(kind: Kind) -> Phases
     ensures { result ≡ phases_of kind }
 {
     match kind {
-        Kind::Prepare => Phases {
-            idle: false,
-            opening: true,
-            open: false,
-        },
-        Kind::Trim => Phases {
-            idle: false,
-            opening: true,
-            open: false,
-        },
-        Kind::Note => Phases {
-            idle: false,
-            opening: false,
-            open: true,
-        },
-        Kind::Send => Phases {
-            idle: false,
-            opening: false,
-            open: true,
-        },
+        Kind::Prepare | Kind::Trim => ONLY_OPENING,
+        Kind::Note | Kind::Send => ONLY_OPEN,
     }
 }
 
@@ -57,18 +40,17 @@ fn served(
     requires { Named shape v i (length media.old) }
     ensures { (r : Records) (s : ℕ) (tables : List ℕ) → server_at r s ≡ v → result_of (changed r s result) media.new tables ≡ once_admitted shape (state_of r media.old tables) (input_of (call_of kind s i fate) given.now) }
 {
-    let t = crc32::tables();
-    let plan = plan_of(&t, kind, shape, v, i, fate, given);
-    match plan {
-        Plan::Refuse(why) => unchanged_server(v, why),
-        Plan::Do(op) => {
-            let held = v.held;
-            let src = record_of(&held, v.issued, v.marks[i] + 1);
+    let t = Tables::new();
+    match plan_of(&t, kind, shape, v, i, fate, given) {
+        Err(why) => unchanged_server(v, why),
+        Ok(op) => {
+            let src = record_of(&v.held, v.issued, v.marks[i] + 1);
             deliver(&t, shape, v, media, i, op, &src, given, fate)
         }
     }
 }
 
+// What the four calls share. Each keeps a function of its own: its contract names its call, which a kind alone does not.
 fn message(
     kind: Kind,
     shape: Shape,
@@ -82,7 +64,7 @@ fn message(
 ) -> Outcome
     ensures { result_of result media.new tables.now ≡ step shape (state_of records media.old tables.now) (input_of (call_of kind server replica fate) given.now) }
 {
-    let k = admit_replica(
+    let admitted = admit_replica(
         shape,
         records,
         media.len(),
@@ -91,9 +73,9 @@ fn message(
         shape.replicas <= replica,
         phases_of(kind),
     );
-    match k {
-        Check::Refuse(why) => declined(records, why),
-        Check::Pass => {
+    match admitted {
+        Err(why) => declined(records, why),
+        Ok(()) => {
             let s = server as usize;
             let v = records.servers[s];
             let c = served(kind, shape, v, media, replica as usize, fate, given);

@@ -10,10 +10,11 @@ ghost use Rattle.cluster.specs.Step.{once_admitted, step};
 ghost use Rattle.checks.specs.Results.{state_of, input_of, result_of, changed};
 ghost use Rattle.delivery.specs.Messages.{Named};
 
-use checks::{Change, Check, admit_replica, declined, settle, unchanged_server};
-use cluster::{Outcome, Phases, Records, Server, Shape};
+use checks::{Change, OPENING_OR_OPEN, admit_replica, declined, settle, unchanged_server};
+use cluster::{Outcome, Records, Server, Shape};
 use copy_checks::{check_copy, not_two};
-use delivery::{deliver, span_of};
+use crc32::Tables;
+use delivery::{deliver, medium_of};
 use fate::Fate;
 use storage::operation::Operation;
 use storage::sizes::Place;
@@ -24,10 +25,7 @@ pub fn place_of(shape: Shape, media: &[u8], i: usize, n: u64) -> Place
     requires places_in_bounds { i * medium_size shape.places + medium_size shape.places ≤ length media.now }
     ensures { result ≡ place_at n (medium_at shape.places i media.now) }
 {
-    let span = span_of(shape.places, i);
-    let at = span.at;
-    let end = span.end;
-    medium_places::read_place(&media[at..end], n)
+    medium_places::read_place(medium_of(media, shape.places, i), n)
 }
 
 // A copy that is admitted. The CRC tables are made here, once for both replicas.
@@ -43,12 +41,11 @@ fn copied(
     requires { (Named shape v from (length media.old)) × (Named shape v to (length media.old)) }
     ensures { (r : Records) (s : ℕ) (tables : List ℕ) → server_at r s ≡ v → result_of (changed r s result) media.new tables ≡ once_admitted shape (state_of r media.old tables) (input_of (call.Copy s from to fate) given.now) }
 {
-    let t = crc32::tables();
-    let mark = v.marks[to];
-    let k = check_copy(&t, shape, v, media, from, to, fate, given);
-    match k {
-        Check::Refuse(why) => unchanged_server(v, why),
-        Check::Pass => {
+    let t = Tables::new();
+    match check_copy(&t, shape, v, media, from, to, fate, given) {
+        Err(why) => unchanged_server(v, why),
+        Ok(()) => {
+            let mark = v.marks[to];
             let src = place_of(shape, media, from, mark + 1);
             deliver(
                 &t,
@@ -79,22 +76,18 @@ pub fn copy(
 ) -> Outcome
     ensures { result_of result media.new tables.now ≡ step shape (state_of records media.old tables.now) (input_of (call.Copy server from to fate) given.now) }
 {
-    let k = admit_replica(
+    let admitted = admit_replica(
         shape,
         records,
         media.len(),
         tables.len(),
         server,
         not_two(shape.replicas, from, to),
-        Phases {
-            idle: false,
-            opening: true,
-            open: true,
-        },
+        OPENING_OR_OPEN,
     );
-    match k {
-        Check::Refuse(why) => declined(records, why),
-        Check::Pass => {
+    match admitted {
+        Err(why) => declined(records, why),
+        Ok(()) => {
             let s = server as usize;
             let v = records.servers[s];
             let c = copied(shape, v, media, from as usize, to as usize, fate, given);

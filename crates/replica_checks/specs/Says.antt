@@ -1,7 +1,8 @@
 -- What a replica says to a message: it declines, or it answers its mark; and its tests on what it has read. Document 01, refusals 18 to 20.
 -- Assumes nothing.
-use Rattle.std.specs.Prelude.{ℕ, Bool, false, cond, not, ◌||◌, ltb, eqb}
+use Rattle.std.specs.Prelude.{ℕ, Bool, false, cond, not, ◌||◌, ltb, eqb, ⊤, Result, Ok, Err}
 use Rattle.storage.specs.declared.operation.Read.{Read}
+use Rattle.cluster.specs.declared.Refusal.{Refusal}
 use Rattle.cluster.specs.declared.Refusal.TheVariants.{NoSlot, OtherPromise, OtherMark}
 use Rattle.cluster.specs.Refusals.{is_neither}
 use Rattle.replica_checks.specs.declared.Heard.{Heard}
@@ -10,6 +11,11 @@ use Rattle.replica_checks.specs.declared.Heard.TheVariants.{Declined, Mark}
 -- a replica without a slot (18), with another promise (19) or another mark (20), or with the mark n after the message
 abbrev pub says : Bool → Bool → Bool → ℕ → Heard
 says slot promise mark n = cond slot (Declined NoSlot) (cond promise (Declined OtherPromise) (cond mark (Declined OtherMark) (Mark n)))
+
+-- the same of the code's judgement: why the replica declines, or the mark n
+abbrev pub said : Result ⊤ Refusal → ℕ → Heard
+said (Ok _) n = Mark n
+said (Err why) n = Declined why
 
 -- ---- the three tests, on what the replica has read
 

@@ -10,7 +10,7 @@ ghost use Rattle.replies.specs.Texts.{reply_text, text_of};
 use cluster::{Answer, Refusal};
 use text::number;
 
-// What is printed for a line: that it is bad, or the answer to it.
+// What is printed for a line: that it is bad, or the answer to it. It is no `Option`: a bad line is printed too, and `None` would read as nothing printed.
 #[derive(Clone, Copy)]
 pub enum Printed {
     Bad,
@@ -20,7 +20,7 @@ pub enum Printed {
 // The longest text: a word of two letters, a tab, 20 digits and the newline.
 pub const LONGEST: usize = 24;
 
-// A word with its tab, a number and the newline.
+// A word with its tab, a number and the newline. Replies go into lent bytes: there is no heap for a `String` that `Display` could write into.
 fn put_tagged(out: &mut [u8], word: &[u8], v: u64) -> usize
     requires word_len { length word.now ≡ 3 }
     requires in_bounds { 24 ≤ length out.old }
@@ -42,7 +42,7 @@ fn put_whole(out: &mut [u8], text: &[u8]) -> usize
     text.len()
 }
 
-// The number of each refusal in document 01's list, which document 02's join.
+// The number of each refusal in document 01's list, which document 02's join. It is no `From`, since neither type is this crate's.
 pub fn number_of(why: Refusal) -> u64
     ensures { result ≡ number_of why }
 {

@@ -12,20 +12,17 @@ use Rattle.base.proofs.Tests.{neither}
 use Rattle.storage.specs.Sizes.{medium_size}
 use Rattle.cluster.specs.declared.Shape.{Shape}
 use Rattle.cluster.specs.declared.Records.{Records}
-use Rattle.cluster.specs.Refusals.{outside, other_length, rows_of, first_of}
+use Rattle.cluster.specs.Refusals.{outside, other_length, rows_of, pass, first_of}
 use Rattle.cluster.proofs.Rows.{condition_of}
-use Rattle.checks.specs.declared.Check.{Check}
-use Rattle.checks.specs.declared.Check.TheVariants.{Pass}
-use Rattle.checks.specs.Verdicts.{verdict_of}
 use Rattle.checks.specs.Results.{state_of, restore_of}
-use Rattle.checks.proofs.Frame.{holds_not}
+use Rattle.checks.proofs.Behind.{no}
 use Rattle.shape_checks.proofs.Sizes.{within, media_fit}
 use Rattle.restore_effect.specs.Fitting.{Fits}
 
-module _ (h : Shape) (r : Records) (media tables : List ℕ) (i : ℕ) (backup : List ℕ) {k : Check}
-    (v : verdict_of k ≡ first_of (rows_of h (state_of r media tables) (restore_of i backup))) (q : k ≡ Pass) where
+module _ (h : Shape) (r : Records) (media tables : List ℕ) (i : ℕ) (backup : List ℕ)
+    (v : pass ≡ first_of (rows_of h (state_of r media tables) (restore_of i backup))) where
   none : (n : ℕ) → condition_of n (rows_of h (state_of r media tables) (restore_of i backup)) ≡ false
-  none = holds_not (rows_of h (state_of r media tables) (restore_of i backup)) v q
+  none = no (rows_of h (state_of r media tables) (restore_of i backup)) v
 
   pub has_length : length backup ≡ medium_size h.places
   unfolding other_length

@@ -5,8 +5,8 @@ ghost use Rattle.std.specs.Prelude.{◌≡◌};
 ghost use Rattle.cluster.specs.Step.{step};
 ghost use Rattle.checks.specs.Results.{state_of, restore_of, result_of};
 
-use checks::Check;
 use cluster::{Outcome, Records, Shape};
+use crc32::Tables;
 use restore_checks::judge;
 use restore_effect::put_back;
 
@@ -20,10 +20,9 @@ pub fn restore(
 ) -> Outcome
     ensures { result_of result media.new tables.now ≡ step shape (state_of records media.old tables.now) (restore_of replica backup.now) }
 {
-    let t = crc32::tables();
-    let k = judge(&t, shape, records, media, tables, replica, backup);
-    match k {
-        Check::Refuse(why) => checks::declined(records, why),
-        Check::Pass => put_back(&t, records, media, replica as usize, backup),
+    let t = Tables::new();
+    match judge(&t, shape, records, media, tables, replica, backup) {
+        Err(why) => checks::declined(records, why),
+        Ok(()) => put_back(&t, records, media, replica as usize, backup),
     }
 }

@@ -15,7 +15,6 @@ use Rattle.cluster.specs.declared.Shape.{Shape}
 use Rattle.cluster.specs.State.{State}
 use Rattle.cluster.specs.Refusals.{outside, other_length, no_replica_at, session_at_top, no_backup_slot, Row, row, cluster_rows, rows_of, Verdict, declined, first_of}
 use Rattle.checks.specs.Results.{restore_of}
-use Rattle.checks.proofs.Behind.{chain, behind}
 
 -- ---- the bytes' length, by quotient and rest of what lies behind the slots
 
@@ -52,6 +51,5 @@ module _ (h : Shape) (x : State) (i : ℕ) (backup : List ℕ) {b : Bool} (q : b
   unfolding other_length
   rows_are e = rw (sym q ∙ e, or-false (outside h (length x.media) (length x.tables)))
 
-  -- k is what 1 and 2 come to
-  pub by_rows : {k v : Verdict} → b ≡ false → k ≡ first_of (cluster_rows h x) → v ≡ chain k own → v ≡ first_of (rows_of h x (restore_of i backup))
-  by_rows e ek ev = behind (cluster_rows h x) own ek ev ∙ ap first_of (rows_are e)
+  pub by_rows : {v : Verdict} → b ≡ false → v ≡ first_of (cluster_rows h x ++ own) → v ≡ first_of (rows_of h x (restore_of i backup))
+  by_rows e ev = ev ∙ ap first_of (rows_are e)

@@ -6,13 +6,7 @@ ghost use Rattle.hex_digits.specs.Hex.{bytes_of};
 pub fn read(s: &[u8], out: &mut [u8]) -> bool
     ensures { result ≡ true → out.new ≡ bytes_of s.now }
 {
-    if s.len() / 2 != out.len() {
-        return false;
-    }
-    if s.len() % 2 != 0 {
-        return false;
-    }
-    if !hex_digits::is_hex(s) {
+    if s.len() != 2 * out.len() || !hex_digits::is_hex(s) {
         return false;
     }
     hex_digits::read(s, out);

@@ -2,47 +2,34 @@
 ghost use Rattle.std.specs.Prelude.{◌≤◌};
 
 use fate::{Fate, Left};
-use text::number::Number;
 use text::{line, number};
 
-// The fate, if the fields are those of one.
-#[derive(Clone, Copy)]
-pub enum FateField {
-    Is(Fate),
-    Unfit,
-}
-
-fn cut(w: u64, left: u64) -> FateField {
-    match left {
-        0 => FateField::Is(Fate::Cut(w, Left::Old)),
-        1 => FateField::Is(Fate::Cut(w, Left::New)),
-        2 => FateField::Is(Fate::Cut(w, Left::Torn)),
-        _ => FateField::Unfit,
+fn left(number: u64) -> Option<Left> {
+    match number {
+        0 => Some(Left::Old),
+        1 => Some(Left::New),
+        2 => Some(Left::Torn),
+        _ => None,
     }
 }
 
-fn fate(kind: u64, w: u64, left: u64) -> FateField {
+// The kind is a number: it is the field as it stands in the line, and becomes a Fate here.
+fn fate(kind: u64, w: u64, left_as: u64) -> Option<Fate> {
     match kind {
-        0 => FateField::Is(Fate::Answered),
-        1 => FateField::Is(Fate::Lost),
-        2 => FateField::Is(Fate::AnswerLost),
-        3 => cut(w, left),
-        _ => FateField::Unfit,
+        0 => Some(Fate::Answered),
+        1 => Some(Fate::Lost),
+        2 => Some(Fate::AnswerLost),
+        3 => Some(Fate::Cut(w, left(left_as)?)),
+        _ => None,
     }
 }
 
-// The fate that field k and the two behind it say.
-pub fn read(line: &[u8], k: usize) -> FateField
+// The fate that field k and the two behind it say, if they are those of one.
+pub fn read(line: &[u8], k: usize) -> Option<Fate>
     requires { k ≤ 4 }
 {
-    let Number::Is(kind) = number::decimal(line::field(line, k)) else {
-        return FateField::Unfit;
-    };
-    let Number::Is(w) = number::decimal(line::field(line, k + 1)) else {
-        return FateField::Unfit;
-    };
-    let Number::Is(left) = number::decimal(line::field(line, k + 2)) else {
-        return FateField::Unfit;
-    };
-    fate(kind, w, left)
+    let kind = number::decimal(line::field(line, k))?;
+    let w = number::decimal(line::field(line, k + 1))?;
+    let left_as = number::decimal(line::field(line, k + 2))?;
+    fate(kind, w, left_as)
 }

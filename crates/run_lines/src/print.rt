@@ -17,22 +17,15 @@ pub fn number(to: &mut impl Write, v: u64) -> io::Result<()> {
 
 // A number behind others.
 pub fn next(to: &mut impl Write, v: u64) -> io::Result<()> {
-    text(to, b"\t")?;
-    number(to, v)
+    write!(to, "\t{v}")
 }
 
 // The digits of some bytes.
 pub fn digits(to: &mut impl Write, b: &[u8]) -> io::Result<()>
     requires { length b.now ≤ 2048 }
 {
-    let mut out = [0u8; DIGITS];
-    let n = 2 * b.len();
-    spelled(to, b, &mut out[0..n])
-}
-
-fn spelled(to: &mut impl Write, b: &[u8], out: &mut [u8]) -> io::Result<()>
-    requires { length out.old ≡ 2 * length b.now }
-{
-    hex_digits::spell(b, out);
-    text(to, out)
+    let mut room = [0u8; DIGITS];
+    let spelled = &mut room[..2 * b.len()];
+    hex_digits::spell(b, spelled);
+    to.write_all(spelled)
 }

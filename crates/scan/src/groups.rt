@@ -1,8 +1,7 @@
 // Places one behind the other: how many of them are valid, up to the first that is not. Each place is reached from the one before it by a
-// sum, and no check is made twice.
+// sum (README, "Speed"), and no check is made twice.
 ghost use Rattle.std.specs.Prelude.{◌≡◌, true, ◌+◌, ◌*◌, ◌≤◌, ◌<◌, ◌^◌, length};
 ghost use Rattle.std.specs.Int.Bits.{bit_xor};
-ghost use Rattle.crc32.specs.Tables.{tables_of};
 ghost use Rattle.lanes.specs.Lanes.{lanes};
 ghost use Rattle.storage.specs.Sizes.{place_size};
 ghost use Rattle.scan.specs.Rows.{AllFit, Checks, valid_rows};
@@ -19,22 +18,18 @@ const WORDS: usize = (PLACE_CHECKED - CLIENT_AT) / WORD;
 
 // The valid ones of so many places, of which the first follows place n, one at a time.
 pub fn singly(t: &Tables, s: &[u8], n: u64, count: usize) -> usize
-    requires t_value { t.now ≡ tables_of }
     requires count_in_bounds { place_size * count ≤ length s.now }
     requires count_bound { n + count < 2 ^ 64 }
     ensures { result ≡ valid_rows count n s.now }
 {
-    let mut j = 0;
     let mut a = 0;
-    while j < count {
-        let e = a + PLACE;
-        if !place_reader::valid(t, &s[a..e], n + j as u64 + 1) {
+    for j in 0..count {
+        if !place_reader::valid(t, &s[a..a + PLACE], n + j as u64 + 1) {
             return j;
         }
-        j += 1;
-        a = e;
+        a += PLACE;
     }
-    j
+    count
 }
 
 // Whether all places of a group are as they have to be in all but the check.
@@ -43,15 +38,12 @@ fn all_fit(s: &[u8], n: u64) -> bool
     requires lanes_bound { n + lanes < 2 ^ 64 }
     ensures { result ≡ true → AllFit n s.now }
 {
-    let mut j = 0;
     let mut a = 0;
-    while j < LANES {
-        let e = a + PLACE;
-        if !place_reader::fields_fit(&s[a..e], n + j as u64 + 1) {
+    for j in 0..LANES {
+        if !place_reader::fields_fit(&s[a..a + PLACE], n + j as u64 + 1) {
             return false;
         }
-        j += 1;
-        a = e;
+        a += PLACE;
     }
     true
 }
@@ -69,23 +61,19 @@ fn agreeing(s: &[u8], n: u64, r: Registers) -> usize
     requires checks { Checks n s.now r }
     ensures { result ≡ valid_rows lanes n s.now }
 {
-    let mut j = 0;
     let mut a = PLACE_CHECKED;
-    while j < LANES {
-        let e = a + CHECK;
-        if check_of(r[j]) as u64 != octets::get_be(&s[a..e]) {
+    for j in 0..LANES {
+        if check_of(r[j]) as u64 != octets::get_be(&s[a..a + CHECK]) {
             return j;
         }
-        j += 1;
         a += PLACE;
     }
-    j
+    LANES
 }
 
 // The valid ones of a group, of which the first follows place n: if all else fits, the checks are made side by side; if not, one place at
 // a time. The lanes start behind the IDs, which are known by then.
 pub fn together(t: &Tables, s: &[u8], n: u64) -> usize
-    requires t_value { t.now ≡ tables_of }
     requires s_len { length s.now ≡ place_size * lanes }
     requires lanes_bound { n + lanes + 1 < 2 ^ 64 }
     ensures { result ≡ valid_rows lanes n s.now }

@@ -4,7 +4,6 @@
 pub mod groups;
 
 ghost use Rattle.std.specs.Prelude.{◌≡◌, ◌≤◌, length};
-ghost use Rattle.crc32.specs.Tables.{tables_of};
 ghost use Rattle.storage.specs.Sizes.{medium_size};
 ghost use Rattle.storage.specs.Log.{mark_of};
 
@@ -13,10 +12,9 @@ use crc32::Tables;
 use lanes::LANES;
 use storage::sizes::{PLACE, SLOTS};
 
-// The mark of a log whose first places are known to be valid: whole groups first, then what is left. The next group is reached by a sum,
-// not by a product.
+// The mark of a log whose first places are known to be valid: whole groups first, then what is left. The loop stays a while: the next group has
+// to be reached by a sum, not by a product (README, "Speed"), and it steps by groups and offsets, not by an index.
 pub fn mark_from(t: &Tables, m: &[u8], places: usize, known: usize) -> usize
-    requires t_value { t.now ≡ tables_of }
     requires m_len { length m.now ≡ medium_size places }
     requires known_bound { known ≤ mark_of places m.now }
     ensures { result ≡ mark_of places m.now }
@@ -37,7 +35,6 @@ pub fn mark_from(t: &Tables, m: &[u8], places: usize, known: usize) -> usize
 
 // The highest ID of the log, 0 where it is empty.
 pub fn mark(t: &Tables, m: &[u8], places: usize) -> usize
-    requires t_value { t.now ≡ tables_of }
     requires m_len { length m.now ≡ medium_size places }
     ensures { result ≡ mark_of places m.now }
 {

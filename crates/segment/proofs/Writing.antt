@@ -6,13 +6,13 @@ use mathlib.Core.List.{List, [], ◌∷◌, ◌++◌}
 use Prim.Native.Nat.{ℕ, zero, suc, ◌+◌, ◌-◌, ◌*◌, ◌<◌, ◌≤◌, zero-le}
 use native.Mathlib.Omega.{arith}
 use borrow.Rule.Slice.PartMut.{put_mid}
-use lib.ListN.{length, take, drop, length-append}
+use lib.ListN.{length, length-append}
 use Rattle.octets.specs.Octets.{write_at, be_bytes}
 use Rattle.octets.proofs.Laws.{length_part, length_be, mid_write, write_write, write_all, write_none}
-use Rattle.storage.specs.Sizes.{slots_size, place_size, medium_size, place_offset}
+use Rattle.storage.specs.Sizes.{place_size, medium_size, place_offset}
 use Rattle.storage.specs.Places.{size_of, fields_in, data_of, valid_place}
 use Rattle.storage.specs.Log.{place_at, places_from, mark_of}
-use Rattle.storage.proofs.Scan.{place_here, log_valid}
+use Rattle.storage.proofs.Scan.{log_valid}
 use Rattle.storage.proofs.PlaceCases.{valid_tests}
 use Rattle.segment.specs.declared.header.Stamp.{Stamp}
 use Rattle.segment.specs.Header.{header_size, header_bytes}
@@ -55,16 +55,13 @@ pub size_none : (k n : ℕ) (m : List ℕ) → k ≤ n → records_size (left k 
 unfolding records_size
 size_none k n m h = ap records_size (left_none k n m h)
 
--- one place more: its record's size, read at the offset that the code keeps
-pub size_turn : (k n a r : ℕ) (m : List ℕ) → n < k → AllSized k m → a ≡ slots_size + place_size * n → r ≡ record_size (take (a + place_size - a) (drop a m))
-    → (records_size (left k n m) ≡ r + records_size (left k (n + 1) m)) × (r ≤ longest_record) × (r ≡ record_size (place_at (n + 1) m))
-size_turn k n a r m h z e f =
-    let p = place_at (n + 1) m in
-    let g : r ≡ record_size p = f ∙ ap record_size (place_here n a m e) in (
-      size_next k n m h ∙ ap (λ (i : ℕ). i + records_size (left k (n + 1) m)) (sym g),
-      omega (arith, g, size_is p, z (n + 1) (omega arith) (omega arith)),
-      g,
-    )
+-- one place more: its record's size
+pub size_turn : (k n r : ℕ) (m : List ℕ) → n < k → AllSized k m → r ≡ record_size (place_at (n + 1) m)
+    → (records_size (left k n m) ≡ r + records_size (left k (n + 1) m)) × (r ≤ longest_record)
+size_turn k n r m h z e = (
+  size_next k n m h ∙ ap (λ (i : ℕ). i + records_size (left k (n + 1) m)) (sym e),
+  omega (arith, e, size_is (place_at (n + 1) m), z (n + 1) (omega arith) (omega arith)),
+)
 
 -- a file of k records is at most so long
 pub sizes_bound : (k j n : ℕ) (m : List ℕ) → AllSized k m → 1 ≤ n → n + j ≤ k + 1 → records_size (places_from j n m) ≤ longest_record * j

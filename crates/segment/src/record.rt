@@ -1,6 +1,5 @@
 // A record of the data file, written from a place.
 ghost use Rattle.std.specs.Prelude.{◌≡◌, ◌≤◌, length};
-ghost use Rattle.crc32.specs.Tables.{tables_of};
 ghost use Rattle.storage.specs.Sizes.{place_size, data_limit};
 ghost use Rattle.storage.specs.Places.{size_of, fields_in, data_of};
 ghost use Rattle.segment.specs.Records.{record_bytes, record_size};
@@ -27,7 +26,6 @@ pub fn size_of(p: &[u8]) -> usize
 
 // The record of a place. Its numbers stand before the data check as they stand in the place.
 pub fn write_record(t: &Tables, out: &mut [u8], p: &[u8])
-    requires t_value { t.now ≡ tables_of }
     requires p_len { length p.now ≡ place_size }
     requires p_bound { size_of p.now ≤ data_limit }
     requires out_len { length out.old ≡ record_size p.now }

@@ -1,6 +1,5 @@
 // A place written from the record of a data file.
 ghost use Rattle.std.specs.Prelude.{◌≡◌, ◌≤◌, length};
-ghost use Rattle.crc32.specs.Tables.{tables_of};
 ghost use Rattle.storage.specs.Sizes.{place_size, data_limit};
 ghost use Rattle.storage.specs.Places.{size_of};
 ghost use Rattle.segment.specs.Records.{record_size, place_in};
@@ -11,7 +10,6 @@ use storage::sizes::{DATA_AT, PLACE_CHECKED};
 
 // The place of the record that s begins with.
 pub fn write_place(t: &Tables, out: &mut [u8], s: &[u8])
-    requires t_value { t.now ≡ tables_of }
     requires out_len { length out.old ≡ place_size }
     requires s_bound { size_of s.now ≤ data_limit }
     requires s_in_bounds { record_size s.now ≤ length s.now }

@@ -1,8 +1,7 @@
 // A record of a data file judged: its length field, its size, and whether it is the record of its number.
 #![tactic(auto)]
 
-ghost use Rattle.std.specs.Prelude.{◌≡◌, cond, ◌+◌, ◌≤◌, length, drop};
-ghost use Rattle.crc32.specs.Tables.{tables_of};
+ghost use Rattle.std.specs.Prelude.{◌≡◌, Some, None, cond, ◌+◌, ◌≤◌, length, drop};
 ghost use Rattle.storage.specs.Layout.{data_offset};
 ghost use Rattle.storage.specs.Sizes.{place_layout, data_limit};
 ghost use Rattle.storage.specs.Places.{size_of};
@@ -20,24 +19,23 @@ pub fn length_field(s: &[u8]) -> u64
     octets::get_be(&s[LENGTH_AT..DATA_AT])
 }
 
-// The size of the record at an offset; 0 where its length field is above the limit or not wholly in the file.
-pub fn size_at(file: &[u8], at: usize) -> usize
+// The size of the record at an offset; none where its length field is above the limit or not wholly in the file.
+pub fn size_at(file: &[u8], at: usize) -> Option<usize>
     requires { at ≤ length file.now + longest_record }
-    ensures { result ≡ cond (sized (drop at file.now)) (record_size (drop at file.now)) 0 }
+    ensures { result ≡ cond (sized (drop at file.now)) (Some (record_size (drop at file.now))) None }
 {
     if file.len() < at + DATA_AT {
-        return 0;
+        return None;
     }
     let k = length_field(&file[at..]);
     if (DATA_LIMIT as u64) < k {
-        return 0;
+        return None;
     }
-    LEAST + k as usize
+    Some(LEAST + k as usize)
 }
 
 // s begins with record n.
 pub fn is_record(t: &Tables, s: &[u8], n: u64) -> bool
-    requires t_value { t.now ≡ tables_of }
     requires place_layout_in_bounds { data_offset place_layout ≤ length s.now }
     requires s_bound { size_of s.now ≤ data_limit }
     ensures { result ≡ is_record n s.now }
@@ -45,14 +43,8 @@ pub fn is_record(t: &Tables, s: &[u8], n: u64) -> bool
     let k = length_field(s) as usize;
     let end = CONTENT_AT + k;
     let size = LEAST + k;
-    if s.len() < size {
-        return false;
-    }
-    if octets::get_be(&s[ID_AT..CLIENT_AT]) != n {
-        return false;
-    }
-    if crc32::crc(t, &s[CONTENT_AT..end]) as u64 != octets::get_be(&s[CHECK_AT..CONTENT_AT]) {
-        return false;
-    }
-    crc32::check(t, &s[0..size], end)
+    size <= s.len()
+        && octets::get_be(&s[ID_AT..CLIENT_AT]) == n
+        && u64::from(crc32::crc(t, &s[CONTENT_AT..end])) == octets::get_be(&s[CHECK_AT..CONTENT_AT])
+        && crc32::check(t, &s[..size], end)
 }

@@ -1,6 +1,5 @@
 // The records that a server holds: of which IDs, where each lies, and what one more makes of them.
 ghost use Rattle.std.specs.Prelude.{◌≡◌, ◌+◌, ◌*◌, ◌≤◌, length, leb};
-ghost use Rattle.crc32.specs.Tables.{tables_of};
 ghost use Rattle.storage.specs.Sizes.{place_size, data_limit};
 ghost use Rattle.storage.specs.Places.{record_bytes};
 ghost use Rattle.cluster.specs.State.{held_in, index_of, held_at, held_after};
@@ -18,23 +17,14 @@ const LAST: usize = HELD - PLACE;
 pub fn lags(mark: u64, count: u64, issued: u64) -> bool
     ensures { result ≡ leb (mark + count) issued }
 {
-    if issued < mark {
-        return false;
-    }
-    count <= issued - mark
+    mark <= issued && count <= issued - mark
 }
 
 // The record of ID n is held.
 pub fn holds(start: u64, issued: u64, n: u64) -> bool
     ensures { result ≡ held_in start issued n }
 {
-    if n <= start {
-        return false;
-    }
-    if issued < n {
-        return false;
-    }
-    !lags(n, WINDOW, issued)
+    start < n && n <= issued && !lags(n, WINDOW, issued)
 }
 
 // Where the record of ID n lies; the newest is the issued one's. An ID above has the newest's place, one too far below the oldest's.
@@ -55,21 +45,18 @@ pub fn record_of(held: &Held, issued: u64, n: u64) -> Place
     ensures { result ≡ held_at (index_of issued n) held.now }
 {
     let at = offset_of(issued, n);
-    let end = at + PLACE;
-    let all = &held[..];
     let mut out = [0; PLACE];
-    octets::copy(&mut out, &all[at..end]);
+    out.copy_from_slice(&held[at..at + PLACE]);
     out
 }
 
 // One more: each of the others moves to the place before it, and the record of fields and data is the newest.
 pub fn appended(t: &Tables, held: Held, fields: Fields, content: &[u8]) -> Held
-    requires t_value { t.now ≡ tables_of }
     requires content_len_bound { length content.now ≤ data_limit }
     ensures { result ≡ held_after held (record_bytes fields content.now) }
 {
     let mut next = held;
-    octets::copy(&mut next[0..LAST], &held[PLACE..HELD]);
+    next[0..LAST].copy_from_slice(&held[PLACE..HELD]);
     encode(t, &mut next[LAST..HELD], fields, content);
     next
 }

@@ -1,4 +1,4 @@
-// The clusters that the programs accept.
+// The clusters that the programs accept. Their definition has R by itself, so shape_checks' test of R is not called here.
 #![tactic(auto)]
 
 ghost use Rattle.std.specs.Prelude.{◌≡◌};
@@ -10,22 +10,5 @@ use cluster::Shape;
 pub fn is_accepted(h: Shape) -> bool
     ensures { result ≡ accepted h }
 {
-    let r = h.replicas;
-    let n = h.places;
-    if n < 1 {
-        return false;
-    }
-    if 100 < n {
-        return false;
-    }
-    if r == 1 {
-        return true;
-    }
-    if r == 3 {
-        return true;
-    }
-    if r == 5 {
-        return true;
-    }
-    r == 7
+    1 <= h.places && h.places <= 100 && matches!(h.replicas, 1 | 3 | 5 | 7)
 }

@@ -2,7 +2,6 @@
 #![tactic(auto)]
 
 ghost use Rattle.std.specs.Prelude.{◌≡◌, ◌≤◌, length};
-ghost use Rattle.crc32.specs.Tables.{tables_of};
 ghost use Rattle.storage.specs.Sizes.{slot_size, slots_size};
 ghost use Rattle.storage.specs.Slots.{valid_slot, slot_of, slot_bytes, newer, current_of, held_of, other_at};
 
@@ -13,18 +12,14 @@ use storage::sizes::{
 use storage::slot::{Current, Slot};
 
 pub fn valid(t: &Tables, s: &[u8]) -> bool
-    requires { t.now ≡ tables_of }
     ensures { result ≡ valid_slot s.now }
 {
-    if s.len() != SLOT {
-        return false;
-    }
-    if !octets::all_zero(&s[ZEROS_AT..SLOT_CHECKED]) {
-        return false;
-    }
-    crc32::check(t, s, SLOT_CHECKED)
+    s.len() == SLOT
+        && octets::all_zero(&s[ZEROS_AT..SLOT_CHECKED])
+        && crc32::check(t, s, SLOT_CHECKED)
 }
 
+#[tactic(auto, unfolding(storage::specs::Slots::slot_of))]
 pub fn read(s: &[u8]) -> Slot
     requires { length s.now ≡ slot_size }
     ensures { result ≡ slot_of s.now }
@@ -33,14 +28,13 @@ pub fn read(s: &[u8]) -> Slot
     let low = octets::get_be(&s[LOW_AT..LOCAL_AT]);
     let local = octets::get_be(&s[LOCAL_AT..ZEROS_AT]);
     Slot {
-        promise: promise,
-        low: low,
-        local: local,
+        promise,
+        low,
+        local,
     }
 }
 
 pub fn encode(t: &Tables, out: &mut [u8], x: Slot)
-    requires t_value { t.now ≡ tables_of }
     requires out_len { length out.old ≡ slot_size }
     ensures { out.new ≡ slot_bytes x }
 {
@@ -55,34 +49,23 @@ pub fn encode(t: &Tables, out: &mut [u8], x: Slot)
 fn supersedes(a: Slot, b: Slot) -> bool
     ensures { result ≡ newer a b }
 {
-    if a.promise < b.promise {
-        return true;
-    }
-    if a.promise != b.promise {
-        return false;
-    }
-    a.low < b.low
+    (a.promise, a.low) < (b.promise, b.low)
 }
 
 // The current slot of a medium.
+#[tactic(auto, unfolding(storage::specs::Slots::current_of))]
 pub fn choose(t: &Tables, m: &[u8]) -> Current
-    requires t_value { t.now ≡ tables_of }
     requires slots_size_in_bounds { slots_size ≤ length m.now }
     ensures { result ≡ current_of m.now }
 {
-    if !valid(t, &m[0..SLOT]) {
-        if !valid(t, &m[SLOT..SLOTS]) {
-            return Current::Neither;
-        }
-        return Current::Second;
+    let first = &m[0..SLOT];
+    let second = &m[SLOT..SLOTS];
+    match (valid(t, first), valid(t, second)) {
+        (false, false) => Current::Neither,
+        (false, true) => Current::Second,
+        (true, true) if supersedes(read(first), read(second)) => Current::Second,
+        (true, _) => Current::First,
     }
-    if !valid(t, &m[SLOT..SLOTS]) {
-        return Current::First;
-    }
-    if supersedes(read(&m[0..SLOT]), read(&m[SLOT..SLOTS])) {
-        return Current::Second;
-    }
-    Current::First
 }
 
 // What the current slot holds.
@@ -107,7 +90,6 @@ pub fn other(c: Current) -> usize
 {
     match c {
         Current::First => SLOT,
-        Current::Second => 0,
-        Current::Neither => 0,
+        Current::Second | Current::Neither => 0,
     }
 }

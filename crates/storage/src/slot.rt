@@ -8,7 +8,7 @@ pub struct Slot {
     pub local: u64,
 }
 
-// Which of the two slots is current.
+// Which of the two slots is current. Three states, which `current_of` of specs/Slots and the theorems name: no Option of two.
 #[derive(Clone, Copy)]
 pub enum Current {
     First,

@@ -8,30 +8,18 @@ ghost use Rattle.cluster.specs.Effects.{arrives, raised_session, opening_server,
 ghost use Rattle.checks.specs.Results.{state_of, result_of};
 ghost use Rattle.register_message.specs.Settled.{settled};
 
-use cluster::{Answer, HELD, Phase, Register, Server};
+use cluster::{Answer, Phase, Register, Server};
 use fate::Fate;
 use register_message::{Registered, does_arrive, is_answered};
 
-// A session's number has 64 bits.
-pub fn at_top(session: u64) -> bool
-    ensures { result ≡ session_at_top session }
-{
-    session == 18446744073709551615
-}
-
 // The register with the session raised by 1, if the message arrives and there is a higher number.
-fn raised(g: Register, fate: Fate) -> Register
+fn raised(mut g: Register, fate: Fate) -> Register
     ensures { result ≡ cond (arrives fate && not (session_at_top g.session)) (raised_session g) g }
 {
-    if !does_arrive(fate) {
-        return g;
+    if does_arrive(fate) && g.session != u64::MAX {
+        g.session += 1;
     }
-    if at_top(g.session) {
-        return g;
-    }
-    let mut next = g;
-    next.session = g.session + 1;
-    next
+    g
 }
 
 // A server that a register has handed its session, generation and entries: it knows no replica.
@@ -43,14 +31,8 @@ fn opening(g: Register) -> Server
         phase: Phase::Opening,
         session: g.session,
         generation: g.generation,
-        entries: entries,
-        known: [false; 7],
-        dropped: [false; 7],
-        marks: [0; 7],
-        start: 0,
-        issued: 0,
-        acked: 0,
-        held: [0; HELD],
+        entries,
+        ..servers::idle()
     }
 }
 
@@ -58,16 +40,16 @@ fn opening(g: Register) -> Server
 pub fn taken(g: Register, fate: Fate) -> Registered
     ensures { (r : Records) (s : ℕ) (media tables : List ℕ) → r.register ≡ g → result_of (settled r s result) media tables ≡ take_effect (state_of r media tables) s fate }
 {
-    let next = raised(g, fate);
+    let register = raised(g, fate);
     if is_answered(fate) {
         return Registered {
-            register: next,
-            server: opening(next),
-            answer: Answer::Value(next.session),
+            register,
+            server: opening(register),
+            answer: Answer::Value(register.session),
         };
     }
     Registered {
-        register: next,
+        register,
         server: servers::idle(),
         answer: Answer::Silent,
     }

@@ -1,12 +1,8 @@
 -- The text of a line: fields with a tab between two, numbers in base ten, read and written. Document 01, "Script program": "tab between fields",
 -- "Numbers are in base ten".
 -- Assumes nothing.
-use Rattle.std.specs.Prelude.{List, [], ◌∷◌, ◌++◌, cond, ◌&&◌, ℕ, zero, suc, ◌+◌, ◌-◌, ◌*◌, ◌/◌, ◌%◌, ◌^◌, take, drop, eqb, ltb, leb}
+use Rattle.std.specs.Prelude.{Option, Some, None, List, [], ◌∷◌, ◌++◌, cond, ◌&&◌, ◌==◌, ℕ, zero, suc, ◌+◌, ◌-◌, ◌*◌, ◌/◌, ◌%◌, ◌^◌, take, drop, count_by, ltb, leb}
 use Rattle.byte_search.specs.Bytes.{index_of}
-use Rattle.text.specs.declared.number.Number.{Number}
-use Rattle.text.specs.declared.number.Number.TheVariants.{Is, Unfit}
-use Rattle.text.specs.declared.number.Word.{Word}
-use Rattle.text.specs.declared.number.Word.TheVariants as word
 
 abbrev pub tab : ℕ
 tab = 9
@@ -31,32 +27,28 @@ after_of (suc k) s = after_of k (behind_of s)
 abbrev pub field_of : ℕ → List ℕ → List ℕ
 field_of k s = first_of (after_of k s)
 
-unfoldable pub tabs_in : List ℕ → ℕ
-tabs_in [] = 0
-tabs_in (b ∷ s) = cond (eqb b tab) 1 0 + tabs_in s
-
 unfoldable pub field_count : List ℕ → ℕ
-field_count s = 1 + tabs_in s
+field_count s = 1 + count_by (λ b. b == tab) s
 
 -- the number with one more digit behind it
-abbrev pub with_digit : Number → ℕ → Number
-with_digit Unfit b = Unfit
-with_digit (Is v) b =
-    cond (leb 48 b && leb b 57 && ltb (v * 10 + (b - 48)) (2 ^ 64)) (Is (v * 10 + (b - 48))) Unfit
+abbrev pub with_digit : Option ℕ → ℕ → Option ℕ
+with_digit None b = None
+with_digit (Some v) b =
+    cond (leb 48 b && leb b 57 && ltb (v * 10 + (b - 48)) (2 ^ 64)) (Some (v * 10 + (b - 48))) None
 
-unfoldable pub with_digits : Number → List ℕ → Number
+unfoldable pub with_digits : Option ℕ → List ℕ → Option ℕ
 with_digits n [] = n
 with_digits n (b ∷ s) = with_digits (with_digit n b) s
 
 -- the number of 64 bits that digits stand for: at least one, and nothing else
-unfoldable pub number_of : List ℕ → Number
-number_of [] = Unfit
-number_of (b ∷ s) = with_digits (Is 0) (b ∷ s)
+unfoldable pub number_of : List ℕ → Option ℕ
+number_of [] = None
+number_of (b ∷ s) = with_digits (Some 0) (b ∷ s)
 
 -- the same of 32 bits
-abbrev pub word_of : Number → Word
-word_of Unfit = word.Unfit
-word_of (Is v) = cond (ltb v (2 ^ 32)) (word.Is v) word.Unfit
+abbrev pub word_of : Option ℕ → Option ℕ
+word_of None = None
+word_of (Some v) = cond (ltb v (2 ^ 32)) (Some v) None
 
 -- ---- written
 

@@ -9,7 +9,7 @@ pub fn first(s: &[u8]) -> &[u8]
     ensures { result.now ≡ first_of s.now }
 {
     let i = byte_search::find(s, 0, s.len(), TAB);
-    &s[0..i]
+    &s[..i]
 }
 
 // What stands behind it.
@@ -24,16 +24,13 @@ pub fn behind(s: &[u8]) -> &[u8]
     &s[k..]
 }
 
-// What stands behind the first k tabs; nothing where there are fewer.
+// What stands behind the first k tabs; nothing where there are fewer. `behind` is the definition's own step: `split` is no plainer.
 pub fn after(line: &[u8], k: usize) -> &[u8]
     ensures { result.now ≡ after_of k line.now }
 {
     let mut s = line;
-    let mut left = k;
-    while 0 < left {
-        let rest = behind(s);
-        s = rest;
-        left -= 1;
+    for _i in 0..k {
+        s = behind(s);
     }
     s
 }
@@ -49,13 +46,5 @@ pub fn field(line: &[u8], k: usize) -> &[u8]
 pub fn count(line: &[u8]) -> usize
     ensures { result ≡ field_count line.now }
 {
-    let mut n = 1;
-    let mut i = 0;
-    while i < line.len() {
-        if line[i] == TAB {
-            n += 1;
-        }
-        i += 1;
-    }
-    n
+    1 + line.iter().filter(|b| **b == TAB).count()
 }

@@ -1,71 +1,41 @@
 // Numbers in base ten: digits only, at least one, and no more than the width holds.
-ghost use Rattle.std.specs.Prelude.{◌≡◌, ◌+◌, ◌≤◌, length};
+ghost use Rattle.std.specs.Prelude.{◌≡◌, ◌+◌, ◌≤◌, length, Some};
 ghost use Rattle.octets.specs.Octets.{write_at};
 ghost use Rattle.text.specs.Text.{with_digit, number_of, word_of, decimal_of};
 
-// A number of 64 bits, if the digits are those of one.
-#[derive(Clone, Copy)]
-pub enum Number {
-    Is(u64),
-    Unfit,
-}
-
-// The same for 32 bits.
-#[derive(Clone, Copy)]
-pub enum Word {
-    Is(u32),
-    Unfit,
-}
-
 // The number with one more digit behind it.
-fn push(n: Number, b: u8) -> Number
-    ensures { result ≡ with_digit n b }
+fn push(n: u64, b: u8) -> Option<u64>
+    ensures { result ≡ with_digit (Some n) b }
 {
-    let Number::Is(v) = n else {
-        return Number::Unfit;
-    };
-    if b < b'0' {
-        return Number::Unfit;
+    if !b.is_ascii_digit() {
+        return None;
     }
-    if b'9' < b {
-        return Number::Unfit;
-    }
-    let d = (b - b'0') as u64;
-    if (u64::MAX - d) / 10 < v {
-        return Number::Unfit;
-    }
-    Number::Is(v * 10 + d)
+    n.checked_mul(10)?.checked_add(u64::from(b - b'0'))
 }
 
-// The number that digits stand for.
-pub fn decimal(s: &[u8]) -> Number
+// The number of 64 bits that digits stand for.
+pub fn decimal(s: &[u8]) -> Option<u64>
     ensures { result ≡ number_of s.now }
 {
-    if s.len() == 0 {
-        return Number::Unfit;
+    if s.is_empty() {
+        return None;
     }
-    let mut n = Number::Is(0);
-    let mut i = 0;
-    while i < s.len() {
-        n = push(n, s[i]);
-        i += 1;
+    let mut n = 0;
+    for b in s {
+        n = push(n, *b)?;
     }
-    n
+    Some(n)
 }
 
-pub fn decimal32(s: &[u8]) -> Word
+// The same of 32 bits.
+pub fn decimal32(s: &[u8]) -> Option<u32>
     ensures { result ≡ word_of (number_of s.now) }
 {
-    let Number::Is(v) = decimal(s) else {
-        return Word::Unfit;
-    };
-    if (u32::MAX as u64) < v {
-        return Word::Unfit;
-    }
-    Word::Is(v as u32)
+    u32::try_from(decimal(s)?).ok()
 }
 
-// A number's digits at an offset, and how many there are.
+// A number's digits at an offset, and how many there are. They go into lent bytes: `Display` would need a writer over these, and there is no
+// heap for a `String`.
 pub fn put_decimal(out: &mut [u8], at: usize, v: u64) -> usize
     requires { at + 20 ≤ length out.old }
     ensures upper_bound { result ≤ 20 }

@@ -1,103 +1,63 @@
 // Which command a line is, and its answer.
-ghost use Rattle.std.specs.Prelude.{◌≡◌};
-ghost use Rattle.crc32.specs.Tables.{tables_of};
-
-use crate::{conversions, media, operation, records, segments};
-use crc32::Tables;
-use std::io;
+use crate::fields::{Failure, Line};
+use crate::operation::Change;
+use crate::{conversions, media, records, segments};
 use std::io::Write;
 use text::line;
 
-#[derive(Clone, Copy)]
+#[derive(Clone, Copy, PartialEq, Eq)]
 enum Command {
     Crc,
     Place,
     Slot,
     Record,
     SlotOf,
-    Media(operation::Command),
+    Medium,
+    Change(Change),
     Pair,
     Import,
     Convert,
-    Unknown,
 }
 
 // A word's command, and how many fields its lines have.
-#[derive(Clone, Copy)]
-struct Form(Command, usize);
-
-fn form_of(word: &[u8]) -> Form {
-    if check::same(word, b"crc") {
-        return Form(Command::Crc, 2);
-    }
-    if check::same(word, b"place") {
-        return Form(Command::Place, 3);
-    }
-    if check::same(word, b"slot") {
-        return Form(Command::Slot, 2);
-    }
-    if check::same(word, b"record") {
-        return Form(Command::Record, 8);
-    }
-    if check::same(word, b"slotof") {
-        return Form(Command::SlotOf, 4);
-    }
-    medium_form_of(word)
+fn form_of(word: &[u8]) -> Option<(Command, usize)> {
+    let form = match word {
+        b"crc" => (Command::Crc, 2),
+        b"place" => (Command::Place, 3),
+        b"slot" => (Command::Slot, 2),
+        b"record" => (Command::Record, 8),
+        b"slotof" => (Command::SlotOf, 4),
+        b"medium" => (Command::Medium, 3),
+        b"prepare" => (Command::Change(Change::Prepare), 9),
+        b"append" => (Command::Change(Change::Append), 8),
+        b"truncate" => (Command::Change(Change::Truncate), 8),
+        b"note" => (Command::Change(Change::Note), 9),
+        b"pair" => (Command::Pair, 5),
+        b"import" => (Command::Import, 7),
+        b"convert" => (Command::Convert, 4),
+        _ => return None,
+    };
+    Some(form)
 }
 
-// The same of the commands on a medium.
-fn medium_form_of(word: &[u8]) -> Form {
-    if check::same(word, b"medium") {
-        return Form(Command::Media(operation::Command::Medium), 3);
+// Prints the answer, or nothing where the line has no vector's form.
+pub fn answer(to: &mut impl Write, line: &Line<'_>) -> Result<(), Failure> {
+    let Some((command, count)) = form_of(line.field(0)) else {
+        return Err(Failure::Unfit);
+    };
+    if line::count(line.text) != count {
+        return Err(Failure::Unfit);
     }
-    if check::same(word, b"prepare") {
-        return Form(Command::Media(operation::Command::Prepare), 9);
-    }
-    if check::same(word, b"append") {
-        return Form(Command::Media(operation::Command::Append), 8);
-    }
-    if check::same(word, b"truncate") {
-        return Form(Command::Media(operation::Command::Truncate), 8);
-    }
-    if check::same(word, b"note") {
-        return Form(Command::Media(operation::Command::Note), 9);
-    }
-    segment_form_of(word)
-}
-
-// The same of the commands on segment files, and of the converter's.
-fn segment_form_of(word: &[u8]) -> Form {
-    if check::same(word, b"pair") {
-        return Form(Command::Pair, 5);
-    }
-    if check::same(word, b"import") {
-        return Form(Command::Import, 7);
-    }
-    if check::same(word, b"convert") {
-        return Form(Command::Convert, 4);
-    }
-    Form(Command::Unknown, 0)
-}
-
-// Prints the answer, or nothing and says false where the line has no vector's form.
-pub fn answer(to: &mut impl Write, t: &Tables, line: &[u8]) -> io::Result<bool>
-    requires { t.now ≡ tables_of }
-{
-    let f = form_of(line::field(line, 0));
-    if line::count(line) != f.1 {
-        return Ok(false);
-    }
-    let c = f.0;
-    match c {
-        Command::Crc => records::crc(to, t, line),
-        Command::Place => records::place(to, t, line),
-        Command::Slot => records::slot(to, t, line),
-        Command::Record => records::record(to, t, line),
-        Command::SlotOf => records::slot_of(to, t, line),
-        Command::Media(x) => media::answer(to, t, line, x),
-        Command::Pair => segments::pair(to, t, line),
-        Command::Import => segments::import(to, t, line),
-        Command::Convert => conversions::convert(to, t, line),
-        Command::Unknown => Ok(false),
+    match command {
+        Command::Crc => records::crc(to, line),
+        Command::Place => records::place(to, line),
+        Command::Slot => records::slot(to, line),
+        Command::Record => records::record(to, line),
+        Command::SlotOf => records::slot_of(to, line),
+        Command::Medium => media::read(to, line),
+        Command::Change(change) => media::change(to, line, change),
+        Command::Pair => segments::pair(to, line),
+        Command::Import => segments::import(to, line),
+        Command::Convert => conversions::convert(to, line),
     }
 }

@@ -3,9 +3,9 @@
 // that stdout must equal come from the other implementation (twin/src/vectors.rs; the twin's storage_vectors writes both files).
 #![tactic(auto)]
 
-ghost use Rattle.std.specs.Prelude.{◌≡◌};
-ghost use Rattle.crc32.specs.Tables.{tables_of};
+ghost use Rattle.std.specs.Prelude.{◌≤◌};
 
+use crate::fields::{Failure, Line};
 use crc32::Tables;
 use run_lines::print;
 use std::io;
@@ -13,6 +13,7 @@ use std::io::{Read, Write};
 
 mod answer;
 mod conversions;
+mod fields;
 mod media;
 mod operation;
 mod records;
@@ -24,74 +25,87 @@ const LIMIT: usize = 130000;
 // How many bytes are read at once.
 const PIECE: usize = 65536;
 
-// Answers a line of n bytes; of a line that is too long only the first are held.
-fn finish(to: &mut impl Write, t: &Tables, held: &[u8], n: usize) -> io::Result<()>
-    requires { t.now ≡ tables_of }
-{
-    if held.len() < n {
-        return print::text(to, b"bad\n");
-    }
-    if !answer::answer(to, t, &held[0..n])? {
-        print::text(to, b"bad")?;
-    }
-    print::text(to, b"\n")
+// A line as far as it is read. Its length is beside it, as there is no heap; of one that is too long it is one more than can be held.
+#[derive(Clone, Copy)]
+struct Held {
+    bytes: [u8; LIMIT],
+    length: usize,
+    ghost in_range: { length ≤ 130001 },
 }
 
-// One more byte of the input, where n of its line came before: how many have come now, at most one above what can be held.
-fn put(to: &mut impl Write, t: &Tables, held: &mut [u8], n: usize, b: u8) -> io::Result<usize>
-    requires { t.now ≡ tables_of }
-{
-    if b == b'\n' {
-        finish(to, t, held, n)?;
-        return Ok(0);
+impl Held {
+    fn new() -> Held {
+        Held {
+            bytes: [0; LIMIT],
+            length: 0,
+        }
     }
-    if held.len() <= n {
-        return Ok(held.len() + 1);
+
+    fn push(&mut self, b: u8) {
+        if self.length < LIMIT {
+            self.bytes[self.length] = b;
+        }
+        if self.length <= LIMIT {
+            self.length += 1;
+        }
     }
-    held[n] = b;
-    Ok(n + 1)
+
+    // The answer to the line, and its end; a line that is too long has none.
+    fn finish(&mut self, to: &mut impl Write, tables: &Tables) -> io::Result<()> {
+        if LIMIT < self.length {
+            print::text(to, b"bad\n")?;
+        } else {
+            print_answer(to, tables, &self.bytes[..self.length])?;
+        }
+        self.length = 0;
+        Ok(())
+    }
+}
+
+fn print_answer(to: &mut impl Write, tables: &Tables, text: &[u8]) -> io::Result<()> {
+    match answer::answer(to, &Line { tables, text }) {
+        Ok(()) => print::text(to, b"\n"),
+        Err(Failure::Unfit) => print::text(to, b"bad\n"),
+        Err(Failure::Unwritten(e)) => Err(e),
+    }
 }
 
 // The bytes of one read.
-fn feed(
-    to: &mut impl Write,
-    t: &Tables,
-    held: &mut [u8],
-    n: usize,
-    chunk: &[u8],
-) -> io::Result<usize>
-    requires { t.now ≡ tables_of }
-{
-    let mut k = n;
-    for b in chunk {
-        k = put(to, t, held, k, *b)?;
+fn feed(to: &mut impl Write, tables: &Tables, held: &mut Held, piece: &[u8]) -> io::Result<()> {
+    for b in piece {
+        if *b == b'\n' {
+            held.finish(to, tables)?;
+        } else {
+            held.push(*b);
+        }
     }
-    Ok(k)
+    Ok(())
 }
 
 // Reads to the end of the input; the answers to what is read at once are written before more is read. A proved loop has to end, and
-// nothing says that the input does: so it counts its turns up, to a number that no run comes to.
-fn run(input: &mut impl Read, to: &mut impl Write, t: &Tables, held: &mut [u8]) -> io::Result<()>
-    requires { t.now ≡ tables_of }
-{
-    let mut chunk = [0u8; PIECE];
-    let mut n = 0;
+// nothing says that the input does: so it counts its turns up, to a number that no run comes to. (`bytes` ends by itself, but reads a byte at once.)
+fn run(
+    input: &mut impl Read,
+    to: &mut impl Write,
+    tables: &Tables,
+    held: &mut Held,
+) -> io::Result<()> {
+    let mut piece = [0u8; PIECE];
     for _ in 0..u64::MAX {
-        let got = input.read(&mut chunk)?;
-        if got == 0 {
+        let n = input.read(&mut piece)?;
+        if n == 0 {
             break;
         }
-        n = feed(to, t, held, n, &chunk[0..got])?;
+        feed(to, tables, held, &piece[..n])?;
         to.flush()?;
     }
-    if 0 < n {
-        finish(to, t, held, n)?;
+    if 0 < held.length {
+        held.finish(to, tables)?;
     }
     to.flush()
 }
 
 fn main(rt: HostRuntime) -> io::Result<()> {
-    let t = crc32::tables();
-    let mut held = [0u8; LIMIT];
-    run(&mut rt.stdin(), &mut rt.stdout(), &t, &mut held)
+    let tables = Tables::new();
+    run(&mut rt.stdin(), &mut rt.stdout(), &tables, &mut Held::new())
 }

@@ -7,17 +7,12 @@ ghost use Rattle.quorum.specs.Vote.{vote_of};
 ghost use Rattle.cluster.specs.State.{entry_at, is_restored, restored_at, votes_at, mark_at};
 
 use cluster::{Closing, Entry, Server};
-use conditions::but_not;
-use quorum::{Vote, vote_of};
+use quorum::vote_of;
 
 pub fn is_restored(c: Closing) -> bool
     ensures { result ≡ is_restored c }
 {
-    match c {
-        Closing::Unresolved => false,
-        Closing::Mark(_) => false,
-        Closing::Restored => true,
-    }
+    matches!(c, Closing::Restored)
 }
 
 // By the entry handed over at take, not by the register's of now.
@@ -25,18 +20,17 @@ pub fn restored_at(v: Server, i: usize) -> bool
     requires { i < 7 }
     ensures { result ≡ restored_at v i }
 {
-    let e = v.entries[i];
-    let c = e.closing;
-    is_restored(c)
+    is_restored(v.entries[i].closing)
 }
 
-// The replicas that a server may use: known, or members, and not dropped.
+// The replicas that a server may use: known, or members, and not dropped. By index, here and in `others`: an array from two others at one index, for
+// which a zip with `iter_mut` is no plainer.
 pub fn active_flags(known: [bool; 7], dropped: [bool; 7]) -> [bool; 7]
     ensures { result ≡ up_to (λ i. get_or known i false && not (get_or dropped i false)) (replicate 7 false) 7 }
 {
     let mut flags = [false; 7];
     for i in 0..7 {
-        flags[i] = but_not(known[i], dropped[i]);
+        flags[i] = known[i] && !dropped[i];
     }
     flags
 }
@@ -47,21 +41,16 @@ fn others(flags: [bool; 7], entries: [Entry; 7]) -> [bool; 7]
 {
     let mut out = [false; 7];
     for i in 0..7 {
-        let e = entries[i];
-        let c = e.closing;
-        out[i] = but_not(flags[i], is_restored(c));
+        out[i] = flags[i] && !is_restored(entries[i].closing);
     }
     out
 }
 
-pub fn vote_among(v: Server, r: usize) -> Vote
+// The mark that those of them decide. None: none is decided.
+pub fn vote_among(v: Server, r: usize) -> Option<u64>
     requires { r ≤ 7 }
     ensures { result ≡ vote_of (votes_at v) (mark_at v) r }
 {
-    let known = v.known;
-    let dropped = v.dropped;
-    let entries = v.entries;
-    let marks = v.marks;
-    let flags = active_flags(known, dropped);
-    vote_of(others(flags, entries), marks, r)
+    let flags = active_flags(v.known, v.dropped);
+    vote_of(others(flags, v.entries), v.marks, r)
 }

@@ -1,4 +1,5 @@
-// Products of 64-bit numbers that wrap: `std::num` wraps sums and differences alone.
+// Products of 64-bit numbers that wrap, built from wrapping sums and halves: the form that document 01 names for the places of a lock, so the library's
+// `wrapping_mul` does not take its place.
 #![tactic(auto)]
 
 ghost use Rattle.std.specs.Prelude.{◌≡◌, ◌+◌, ◌*◌, ◌%◌, ◌^◌};
@@ -7,14 +8,10 @@ ghost use Rattle.std.specs.Prelude.{◌≡◌, ◌+◌, ◌*◌, ◌%◌, ◌^�
 fn add_odd(acc: u64, a: u64, b: u64) -> u64
     ensures { result ≡ (acc + a * (b % 2)) % 2 ^ 64 }
 {
-    if b % 2 == 1 {
-        std::num::wrapping_add_u64(acc, a)
-    } else {
-        acc
-    }
+    if b % 2 == 1 { acc.wrapping_add(a) } else { acc }
 }
 
-// The product modulo 2^64, by wrapping sums and halves.
+// The product modulo 2^64, by wrapping sums and halves. The loop counts no index: it ends with b.
 pub fn product(k: u64, c: u64) -> u64
     ensures { result ≡ (k * c) % 2 ^ 64 }
 {
@@ -23,8 +20,8 @@ pub fn product(k: u64, c: u64) -> u64
     let mut b = c;
     while 0 < b {
         acc = add_odd(acc, a, b);
-        a = std::num::wrapping_add_u64(a, a);
-        b = b / 2;
+        a = a.wrapping_add(a);
+        b /= 2;
     }
     acc
 }

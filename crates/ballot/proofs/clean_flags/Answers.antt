@@ -1,10 +1,7 @@
--- `clean_flags`. The invariant: the flags below i say which replicas are clean, and the others are false.
--- Assumes nothing.
-use mathlib.Core.Path.{ap, ◌∙◌}
+-- `clean_flags`: no flag is set before the first turn, and a turn sets its own (`up_to_step`).
+use borrow.Author.Rules.{rules}
 use Rattle.base.specs.Below.{up_to}
 use Rattle.base.proofs.Below.{up_to_step}
-use native.Mathlib.Omega.{arith}
-use borrow.Author.Rules.{rules}
 use Rattle.ballot.proofs.clean_flags.Goals as goal
 
 pub loop-i-init : goal.loop-i-init
@@ -12,7 +9,4 @@ unfolding up_to
 loop-i-init c = search rules
 
 pub loop-i-preserved : goal.loop-i-preserved
-loop-i-preserved c = (search rules, up_to_step _ _ _ _ _ c.loop-i.invariant.1 c.both.ensures)
-
-pub returns : goal.returns
-returns c = c.loop-i.invariant.1 ∙ ap (up_to _ _) (omega arith)
+loop-i-preserved c = up_to_step _ _ _ _ _ c.loop-i.invariant c.is_clean.ensures

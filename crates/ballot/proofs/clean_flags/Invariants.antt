@@ -1,16 +1,9 @@
 -- `clean_flags`. The invariant: the flags below i say which replicas are clean, and the others are false.
 -- Assumes nothing.
-use mathlib.Core.Path.{◌≡◌}
-use Prim.Native.Nat.{◌-◌, ◌≤◌}
+use Rattle.std.proofs.Common.{◌≡◌, false, replicate}
 use Rattle.base.specs.Below.{up_to}
-use mathlib.Core.Bool.{◌&&◌, false}
-use lib.ListN.{replicate}
-use lib.Dec.{eqb}
-use Rattle.quorum.specs.Vote.{flags_of, marks_of}
+use Rattle.cluster.specs.Refusals.{clean_at}
 use Rattle.ballot.proofs.clean_flags.Given as goal
 
 abbrev pub invariant-loop-i : goal.invariant-loop-i
-invariant-loop-i l = (l.i ≤ l.r) × (l.out ≡ up_to (λ j. flags_of l.active j && eqb (marks_of l.marks j) l.d) (replicate 7 false) l.i)
-
-abbrev pub decreases-loop-i : goal.decreases-loop-i
-decreases-loop-i l = l.r - l.i
+invariant-loop-i l = l.clean ≡ up_to (clean_at l.server l.mark) (replicate 7 false) l.i

@@ -1,15 +1,21 @@
--- `checks::admit_phase`: 5 need only be right if 1 to 3 pass (`if_passed`), and then it is the phase of a server that there is.
+-- `checks::admit_phase`: 5 behind the server's rows; once these passed, there is such a server (`is_server`).
+use native.Mathlib.Omega.{arith}
 use Rattle.cluster.specs.Refusals.{server_rows}
-use Rattle.cluster.proofs.Rows.{passed}
 use Rattle.checks.specs.Results.{state_of}
-use Rattle.checks.proofs.Behind.{if_passed}
-use Rattle.checks.proofs.Frame.{phase_is}
+use Rattle.checks.proofs.Behind.{behind, stopped, is_server}
 use Rattle.checks.proofs.admit_phase.Goals as goal
+
+pub returns-in_err-admit_server : goal.returns-in_err-admit_server
+returns-in_err-admit_server c =
+    λ m t em et. stopped _ _ (server_rows _ (state_of _ m t) _) _ c.from_residual.ensures (c.in_err-admit_server.ensures m t em et)
+
+pub bounds-records-server : goal.bounds-records-server
+bounds-records-server c = is_server _ _ _ _ _ c.in_ok-admit_server.ensures
+
+pub offset_bounds-records-server : goal.offset_bounds-records-server
+offset_bounds-records-server c = let b = bounds-records-server c in omega (arith, b)
 
 pub returns : goal.returns
 returns c =
-    let a = c.args in
     λ m t em et.
-    if_passed (server_rows a.shape (state_of a.records m t) a.server) _ _ (c.admit_server-k.ensures m t em et)
-    (λ e. phase_is a.records a.server a.phases (passed (server_rows a.shape (state_of a.records m t) a.server) e 3))
-    (rw (← c.phase_at.ensures, ← c.allowed-wrong.ensures) c.also.ensures)
+    rw (← c.allowed.ensures) (behind (server_rows _ (state_of _ m t) _) _ (c.in_ok-admit_server.ensures m t em et) c.refuse_if.ensures)

@@ -1,18 +1,30 @@
--- `checks::admit_replica`: 4 behind the server's rows, then 5, which need only be right if all of these pass (`if_passed`).
-use mathlib.Core.List.{[], ◌∷◌, ◌++◌}
+-- `checks::admit_replica`: 4 and 5 behind the server's rows; once these passed, there is such a server (`is_server`).
+use mathlib.Core.List.{[], ◌∷◌}
+use native.Mathlib.Omega.{arith}
 use Rattle.cluster.specs.Refusals.{row, server_rows}
-use Rattle.cluster.proofs.Rows.{passed}
 use Rattle.checks.specs.Results.{state_of}
-use Rattle.checks.proofs.Behind.{behind, if_passed}
-use Rattle.checks.proofs.Frame.{phase_is}
+use Rattle.checks.proofs.Behind.{behind, stopped, is_server}
 use Rattle.checks.proofs.admit_replica.Goals as goal
+
+pub returns-in_err-admit_server : goal.returns-in_err-admit_server
+returns-in_err-admit_server c =
+    λ m t em et. stopped _ _ (server_rows _ (state_of _ m t) _) _ c.from_residual.ensures (c.in_err-admit_server.ensures m t em et)
+
+pub returns-in_err-refuse_if : goal.returns-in_err-refuse_if
+returns-in_err-refuse_if c =
+    λ m t em et.
+    behind (server_rows _ (state_of _ m t) _) _ (c.in_ok-admit_server.ensures m t em et)
+    (stopped _ _ (row 4 _ ∷ []) _ c.from_residual-in_err-refuse_if.ensures c.in_err-refuse_if.ensures)
+
+pub bounds-records-server : goal.bounds-records-server
+bounds-records-server c = is_server _ _ _ _ _ c.in_ok-admit_server.ensures
+
+pub offset_bounds-records-server : goal.offset_bounds-records-server
+offset_bounds-records-server c = let b = bounds-records-server c in omega (arith, b)
 
 pub returns : goal.returns
 returns c =
-    let a = c.args in
     λ m t em et.
-    let ws = server_rows a.shape (state_of a.records m t) a.server ++ (row 4 a.unnamed ∷ []) in
-    if_passed ws _ _
-    (behind (server_rows a.shape (state_of a.records m t) a.server) (row 4 a.unnamed ∷ []) (c.admit_server-k.ensures m t em et) c.also-k.ensures)
-    (λ e. phase_is a.records a.server a.phases (passed ws e 3))
-    (rw (← c.phase_at.ensures, ← c.allowed-other.ensures) c.also.ensures)
+    rw (← c.allowed.ensures)
+    (behind (server_rows _ (state_of _ m t) _) _ (c.in_ok-admit_server.ensures m t em et)
+    (behind (row 4 _ ∷ []) _ c.in_ok-refuse_if.ensures c.refuse_if-2.ensures))

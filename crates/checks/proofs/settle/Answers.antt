@@ -1,5 +1,5 @@
--- `checks::settle`: `put_server` ensures the records; answer and bytes are the definition's.
+-- `checks::settle`: `put_server` ensures the records, `replied` the rest.
 use Rattle.checks.proofs.settle.Goals as goal
 
 pub returns : goal.returns
-returns c = rw c.put_server.ensures
+returns c = rw (c.replied.ensures, c.put_server.ensures)

@@ -16,4 +16,4 @@ pub returns : goal.returns
 unfolding checked
 returns c =
     let a = c.args in
-    ap₂ eqb c.crc.ensures (c.get_be.ensures.0 ∙ ap be_of (between_part a.k 4 a.s.now))
+    ap₂ eqb (c.from.ensures ∙ c.crc.ensures) (c.get_be.ensures.0 ∙ ap be_of (between_part a.k 4 a.s.now))

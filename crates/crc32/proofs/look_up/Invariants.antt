@@ -7,7 +7,4 @@ use Rattle.crc32.proofs.Words.{look_ups}
 use Rattle.crc32.proofs.look_up.Given as goal
 
 abbrev pub invariant-loop-k : goal.invariant-loop-k
-invariant-loop-k l = (l.k ≤ l.width) × (l.width ≤ l.k + 4) × (l.y < 256 ^ (l.k + 4 - l.width)) × (bit_xor l.before (look_ups l.t l.width l.x) ≡ bit_xor l.r (look_ups l.t l.k l.y))
-
-abbrev pub decreases-loop-k : goal.decreases-loop-k
-decreases-loop-k l = l.k
+invariant-loop-k l = (l.width ≤ l.k + 4) × (l.y < 256 ^ (l.k + 4 - l.width)) × (bit_xor l.before (look_ups l.t.entries l.width l.x) ≡ bit_xor l.r (look_ups l.t.entries l.k l.y))

@@ -1,13 +1,9 @@
--- `crc32::single`. The invariant: the bytes from i on, from the register as it is, give the result.
+-- `crc32::single`. The invariant: the bytes that are still to come, from the register as it is, give the result.
 -- Assumes nothing.
 use mathlib.Core.Path.{◌≡◌}
-use Prim.Native.Nat.{◌-◌}
-use lib.ListN.{length, drop}
+use lib.ListN.{drop}
 use Rattle.crc32.specs.Crc32.{crc_from}
 use Rattle.crc32.proofs.single.Given as goal
 
-abbrev pub invariant-loop-i : goal.invariant-loop-i
-invariant-loop-i l = crc_from l.before (drop l.from l.s) ≡ crc_from l.r (drop l.i l.s)
-
-abbrev pub decreases-loop-i : goal.decreases-loop-i
-decreases-loop-i l = length l.s - l.i
+abbrev pub invariant-loop-b : goal.invariant-loop-b
+invariant-loop-b l = crc_from l.before l.s ≡ crc_from l.r (drop l.b-index l.s)

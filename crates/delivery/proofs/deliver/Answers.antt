@@ -1,16 +1,13 @@
 -- `delivery::deliver`: the part lent is replica i's medium; what comes back and what `hear` makes of it are the message (`delivered`).
 use Rattle.delivery.proofs.Hearing.{lent_size, delivered}
-use borrow.Author.Rules.{rules}
 use Rattle.delivery.proofs.deliver.Goals as goal
 
 pub answer-heard-requires : goal.answer-heard-requires
 answer-heard-requires c =
     let a = c.args in
     let p = c.requires in record {
-      t_value = p.t_value;
-      medium = record { few = p.named.few; size = lent_size a.shape.places a.i _ _ a.media.now (record { starts = c.span_of-span.ensures.0; ends = c.span_of-span.ensures.1 }) p.named.within };
+      medium = record { few = p.named.few; size = lent_size a.shape.places a.i _ _ a.media.now (record { starts = c.range_of.ensures.0; ends = c.range_of.ensures.1 }) p.named.within };
       has_place = p.has_place;
-      src_len = (search rules, search rules);
     }
 
 pub returns : goal.returns
@@ -18,5 +15,5 @@ returns c =
     let a = c.args in
     λ r s tables q.
     delivered a.shape r a.media.now tables s a.i a.op a.src.now a.fate a.given.now c.requires.named.within _ _
-    (record { starts = c.span_of-span.ensures.0; ends = c.span_of-span.ensures.1 }) c.answer-heard.result c.answer-heard.new.m c.answer-heard.auto.m a.v q
+    (record { starts = c.range_of.ensures.0; ends = c.range_of.ensures.1 }) c.answer-heard.result c.answer-heard.new.m c.answer-heard.auto.m a.v q
     c.answer-heard.ensures (rw c.is_append.ensures at c.hear.ensures)

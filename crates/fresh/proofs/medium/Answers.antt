@@ -1,11 +1,9 @@
 -- `medium`: two slots, then zeros.
 -- Assumes nothing.
-use mathlib.Core.Path.{ap, ◌∙◌}
-use Rattle.storage.specs.Slots.{slot_bytes}
 use Rattle.fresh.proofs.Making.{made}
 use Rattle.fresh.proofs.medium.Goals as goal
 
 pub returns : goal.returns
 returns c =
     let a = c.args in
-    made a.places a.m.now _ _ _ c.requires.m_len (c.encode.ensures ∙ ap slot_bytes c.blank.ensures) (c.encode-2.ensures ∙ ap slot_bytes c.blank-2.ensures) c.clear.ensures
+    made a.places a.m.now _ _ _ c.requires.m_len c.encode.ensures c.encode-2.ensures c.clear.ensures

@@ -5,4 +5,4 @@ use Rattle.fresh.proofs.start.Goals as goal
 
 pub returns : goal.returns
 unfolding fresh
-returns c = rw (c.records.ensures, c.media.ensures, c.clear.ensures, c.requires.tables_len)
+returns c = rw (c.records.ensures, c.media.ensures, c.fill.ensures.after (λ y e. e), c.requires.tables_len)

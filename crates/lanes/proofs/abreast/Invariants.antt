@@ -1,7 +1,7 @@
 -- `lanes::abreast`. The invariant: the lanes below j have made their step, and a is where lane j's begins.
 -- Assumes nothing.
 use mathlib.Core.Path.{◌≡◌}
-use Prim.Native.Nat.{◌+◌, ◌-◌, ◌*◌, ◌≤◌}
+use Prim.Native.Nat.{◌+◌, ◌*◌}
 use lib.ListN.{get_or, replicate}
 use Rattle.octets.specs.Octets.{part}
 use Rattle.crc32.specs.Crc32.{crc_from}
@@ -10,7 +10,4 @@ use Rattle.lanes.specs.Lanes.{lanes, width}
 use Rattle.lanes.proofs.abreast.Given as goal
 
 abbrev pub invariant-loop-j : goal.invariant-loop-j
-invariant-loop-j l = (l.j ≤ lanes) × (l.a ≡ l.at + l.size * l.j) × (l.next ≡ up_to (λ i. crc_from (get_or l.before i 0) (part (l.at + l.size * i) (width l.wide) l.s)) (replicate lanes 0) l.j)
-
-abbrev pub decreases-loop-j : goal.decreases-loop-j
-decreases-loop-j l = lanes - l.j
+invariant-loop-j l = (l.a ≡ l.at + l.size * l.j) × (l.next ≡ up_to (λ i. crc_from (get_or l.before i 0) (part (l.at + l.size * i) (width l.wide) l.s)) (replicate lanes 0) l.j)

@@ -1,8 +1,9 @@
 -- `lanes::number`: two look-ups for a small number (`small`), eight bytes at once for any other.
 -- Assumes nothing.
-use mathlib.Core.Path.{ap, ◌∙◌}
+use mathlib.Core.Path.{ap, ap₂, ◌∙◌}
 use mathlib.Core.List.{List}
 use Prim.Native.Nat.{ℕ}
+use lib.Bits.{bit_xor}
 use lib.Seq.{take_all}
 use Rattle.octets.specs.Octets.{part, be_bytes}
 use Rattle.octets.proofs.Laws.{length_be}
@@ -14,7 +15,7 @@ use borrow.Author.Rules.{rules}
 use Rattle.lanes.proofs.number.Goals as goal
 
 pub returns-then-n-lt65536 : goal.returns-then-n-lt65536
-returns-then-n-lt65536 c = small c.args.t.now c.args.n c.requires (search rules)
+returns-then-n-lt65536 c = ap (λ (r : ℕ). bit_xor r 0x9add_2096) (ap₂ bit_xor c.entry.ensures c.entry-then-n-lt65536.ensures) ∙ small c.args.n (search rules)
 
 pub returns : goal.returns
 unfolding after_number

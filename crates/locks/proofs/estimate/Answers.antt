@@ -6,4 +6,4 @@ use Rattle.locks.proofs.estimate.Goals as goal
 pub returns : goal.returns
 unfolding estimate_of
 returns c =
-    rw (c.lesser-2.ensures, c.lesser.ensures, c.lock_place-r.ensures.0, c.lock_place-q.ensures.0, c.lock_place-p.ensures.0)
+    rw (c.min-2.ensures, c.min.ensures, c.lock_place-r.ensures.0, c.lock_place-q.ensures.0, c.lock_place-p.ensures.0)

@@ -1,19 +1,23 @@
--- `locks::fill_table` meets its contract: after each row the places up to its end hold the mark.
+-- `locks::fill_table` meets its contract: a row more holds the mark, and the four rows are the table.
 -- Assumes nothing.
-use mathlib.Core.Path.{◌≡◌, refl, ◌∙◌}
-use mathlib.Core.List.{[], append-nil}
-use native.Mathlib.Omega.{arith}
-use lib.ListN.{drop, drop_of_length-le}
-use borrow.Author.Fill.{fill_none}
+use Rattle.std.proofs.Common.{◌≡◌, ℕ, ◌+◌, ◌*◌, ◌≤◌, List, length, replicate, take, sym, ◌∙◌, arith}
+use Rattle.std.proofs.lemmas.Slice.{take-put_mid}
+use Rattle.std.proofs.lemmas.List.{replicate-append-replicate, length-replicate, take_all}
+use borrow.Rule.Slice.PartMut.{put_mid}
 use Rattle.locks.proofs.fill_table.Goals as goal
+
+row_more : (i k mark : ℕ) (table row : List ℕ) → 256 * i + 256 ≤ length table → row ≡ replicate 256 mark → take (256 * i) table ≡ replicate (256 * i) mark → take (256 * (i + 1)) (put_mid (256 * i) k table row) ≡ replicate (256 * (i + 1)) mark
+row_more i k mark table row l er h =
+    let n : length row ≡ 256 = rw er (length-replicate 256 mark) in
+    let q : 256 * i + 256 ≡ 256 * (i + 1) = omega arith in
+    take-put_mid (256 * i) k table row (256 * (i + 1)) (omega arith) (omega arith)
+    ∙ rw (h, er, ← q) (replicate-append-replicate (256 * i) 256 mark)
+
+pub loop-i-preserved : goal.loop-i-preserved
+loop-i-preserved c = row_more _ _ _ _ _ (omega arith) c.copy_from_slice.ensures.after c.loop-i.invariant
 
 pub returns : goal.returns
 returns c =
-    let args = c.args in
-    let old = args.table.now in
-    let none : drop 1024 old ≡ [] = drop_of_length-le old {i = 1024} (omega arith) in
-    let a = c.put_row.ensures args.mark old refl (omega arith) (fill_none old args.mark) in
-    let b = c.put_row-2.ensures args.mark old refl (omega arith) a in
-    let d = c.put_row-3.ensures args.mark old refl (omega arith) b in
-    let e = c.put_row-4.ensures args.mark old refl (omega arith) d in
-    e ∙ rw none (append-nil _)
+    let l = c.loop-i in
+    let e : l.i ≡ 4 = omega arith in
+    sym (take_all 1024 l.table (omega arith)) ∙ rw e at l.invariant

@@ -1,18 +1,22 @@
--- `checks::entries_fit`. The invariant: ok says whether the closing marks of the entries below i and below R fit.
+-- `entries_fit`, by the turns of its loop: past R and below it (proofs/Bounded).
 use mathlib.Core.Path.{ap, ◌∙◌}
+use native.Mathlib.Omega.{arith}
 use Rattle.base.specs.Below.{all}
 use Rattle.cluster.specs.Refusals.{entries_fit}
-use native.Mathlib.Omega.{arith}
-use borrow.Author.Rules.{rules}
-use Rattle.mark_checks.proofs.Bounded.{bounded_none, bounded_step}
+use Rattle.mark_checks.proofs.Bounded.{bounded_none, bounded_beyond, bounded_within}
 use Rattle.mark_checks.proofs.entries_fit.Goals as goal
+use Rattle.mark_checks.proofs.entries_fit.Goals.{then-r-i, else-r-i}
 
 pub loop-i-init : goal.loop-i-init
-loop-i-init c = (omega arith, bounded_none _ _)
+loop-i-init c = bounded_none _ _
 
 pub loop-i-preserved : goal.loop-i-preserved
-loop-i-preserved c = (search rules, bounded_step _ _ _ _ _ _ _ c.loop-i.invariant.1 c.closing_fits.ensures c.either.ensures c.both-ok.ensures)
+loop-i-preserved c =
+    elim c.if-r-i.branch [
+      | then-r-i w ↦ bounded_beyond _ _ _ _ _ c.loop-i.invariant w.if-r-i.true w.ok-is
+      | else-r-i w ↦ bounded_within _ _ _ _ _ c.loop-i.invariant w.if-r-i.false (w.ok-is ∙ w.closing_fits.ensures)
+    ]
 
 pub returns : goal.returns
 unfolding entries_fit
-returns c = c.loop-i.invariant.1 ∙ ap (all _) (omega arith)
+returns c = c.loop-i.invariant ∙ ap (all _) (omega arith)

@@ -9,4 +9,4 @@ pub returns : goal.returns
 unfolding place_at
 returns c =
     let a = c.args in
-    c.copy.ensures ∙ between_part (place_offset a.n) place_size a.m.now
+    c.copy_from_slice.ensures.after ∙ between_part (place_offset a.n) place_size a.m.now

@@ -1,13 +1,9 @@
--- `octets::all_zero`. The invariant: ok and whether the bytes from i on are zeros decide.
+-- `octets::all_zero`. The invariant: ok, and whether the bytes that are still to come are zeros, decide.
 use mathlib.Core.Path.{◌≡◌}
 use mathlib.Core.Bool.{◌&&◌}
-use Prim.Native.Nat.{◌≤◌, ◌-◌}
-use lib.ListN.{length, drop}
+use lib.ListN.{drop}
 use Rattle.octets.specs.Octets.{all_zero}
 use Rattle.octets.proofs.all_zero.Given as goal
 
-abbrev pub invariant-loop-i : goal.invariant-loop-i
-invariant-loop-i l = (l.i ≤ length l.s) × (all_zero l.s ≡ (l.ok && all_zero (drop l.i l.s)))
-
-abbrev pub decreases-loop-i : goal.decreases-loop-i
-decreases-loop-i l = length l.s - l.i
+abbrev pub invariant-loop-b : goal.invariant-loop-b
+invariant-loop-b l = all_zero l.s ≡ (l.ok && all_zero (drop l.b-index l.s))

@@ -1,32 +1,25 @@
--- `octets::byte_by_byte`. The invariant: v and the bytes from i on behind it give the number, and v has at most i bytes, so it fits 64 bits.
-use mathlib.Core.Path.{refl, sym, ◌∙◌}
+-- `octets::byte_by_byte`. The invariant: v and the bytes that are still to come give the number, and v has as many bytes as were read, so it fits 64 bits.
+use mathlib.Core.Path.{sym, ◌∙◌}
 use lib.ListN.{length, get_or}
 use Rattle.octets.specs.Octets.{be_of}
 use Rattle.octets.proofs.Lists.{be_next, be_end, be_fits, be_room}
 use native.Mathlib.Omega.{arith}
-use borrow.Author.Rules.{rules}
 use Rattle.octets.proofs.byte_by_byte.Goals as goal
 
-pub loop-i-init : goal.loop-i-init
-loop-i-init c = (search rules, search rules, refl)
-
 pub overflow_mul-v : goal.overflow_mul-v
-overflow_mul-v c = omega (arith, be_room c.loop-i.v c.loop-i.i 7 c.loop-i.invariant.1 (omega arith))
-
-pub overflow_cast-v : goal.overflow_cast-v
-overflow_cast-v c = omega (arith, c.shared_slice_known-1.given c.loop-i.i)
+overflow_mul-v c = omega (arith, be_room c.loop-b.v c.loop-b.b-index 7 c.loop-b.invariant.0 (omega arith))
 
 pub overflow_add-v : goal.overflow_add-v
-overflow_add-v c = omega (arith, be_room c.loop-i.v c.loop-i.i 7 c.loop-i.invariant.1 (omega arith), c.shared_slice_known-1.given c.loop-i.i)
+overflow_add-v c = omega (arith, be_room c.loop-b.v c.loop-b.b-index 7 c.loop-b.invariant.0 (omega arith), c.type_inv.s c.loop-b.b-index)
 
-pub loop-i-preserved : goal.loop-i-preserved
-loop-i-preserved c =
-    let s = c.args.s.now in
-    let l = c.loop-i in
-    (search rules, be_fits l.v (get_or s l.i 0) l.i l.invariant.1 (c.shared_slice_known-1.given l.i).fits, l.invariant.2 ∙ be_next l.v s l.i (search rules))
+pub loop-b-preserved : goal.loop-b-preserved
+loop-b-preserved c =
+    let l = c.loop-b in
+    let h = c.loop-b-test.true in
+    rw c.from.ensures (be_fits l.v (get_or c.args.s.now l.b-index 0) l.b-index l.invariant.0 (c.type_inv.s l.b-index).fits, l.invariant.1 ∙ be_next l.v c.args.s.now l.b-index h)
 
 pub returns : goal.returns
 unfolding be_of
 returns c =
-    let l = c.loop-i in
-    (sym (l.invariant.2 ∙ be_end _ _ l.i c.loop-i-test.false), be_room l.v l.i (length c.args.s.now) l.invariant.1 (search rules))
+    let l = c.loop-b in
+    (sym (l.invariant.1 ∙ be_end _ _ l.b-index c.loop-b-test.false), be_room l.v l.b-index (length c.args.s.now) l.invariant.0 l.auto.b-index-end)

@@ -23,22 +23,22 @@ returns-then-size c =
     let e : c.get_be-size.result ≡ size_as old_layout a.s.now = c.get_be-size.ensures.0 in
     bad_size old_layout a.n a.s.now c.requires.s_len (omega (arith, e, c.if-size.true))
 
-pub returns-then-not-all_zero : goal.returns-then-not-all_zero
+pub returns-else-all_zero : goal.returns-else-all_zero
 unfolding old_valid
-returns-then-not-all_zero c =
+returns-else-all_zero c =
     let a = c.args in
     let s = a.s.now in
     let e : c.get_be-size.result ≡ size_as old_layout s = c.get_be-size.ensures.0 in
     let z : size_as old_layout s ≤ data_limit = omega (arith, e, c.if-size.false) in
-    bad_tail old_layout a.n s c.requires.s_len z (sym (c.all_zero.ensures ∙ ap all_zero (tail_is old_layout c.get_be-size.result s e)) ∙ c.if-not-all_zero.true)
+    c.if-all_zero.false ∙ bad_tail old_layout a.n s c.requires.s_len z (sym (c.all_zero.ensures ∙ ap all_zero (tail_is old_layout c.get_be-size.result s e)) ∙ c.if-all_zero.false)
 
-pub returns : goal.returns
+pub returns-then-all_zero : goal.returns-then-all_zero
 unfolding old_valid
-returns c =
+returns-then-all_zero c =
     let a = c.args in
     let s = a.s.now in
     let i : number_in old_layout 0 s ≡ a.n = sym c.get_be.ensures.0 ∙ c.if-get_be-n.false in
     let e : c.get_be-size.result ≡ size_as old_layout s = c.get_be-size.ensures.0 in
     let z : size_as old_layout s ≤ data_limit = omega (arith, e, c.if-size.false) in
-    let t = sym (c.all_zero.ensures ∙ ap all_zero (tail_is old_layout c.get_be-size.result s e)) ∙ c.if-not-all_zero.false in
+    let t = sym (c.all_zero.ensures ∙ ap all_zero (tail_is old_layout c.get_be-size.result s e)) ∙ c.if-all_zero.true in
     c.check.ensures ∙ by_check old_layout a.n s c.requires.s_len z i t

@@ -10,6 +10,3 @@ returns-then-is_answered c =
     let a = c.args in
     let filled = mid_write (a.i * 1024) (a.i * 1024 + 1024) a.tables.now _ (replicate 1024 a.d) (ap (λ (n : ℕ). a.i * 1024 + n) (length-replicate {A = ℕ} 1024 a.d)) c.fill_table.ensures in
     rw (sym c.is_answered.ensures ∙ c.if-is_answered.true) filled
-
-pub returns-else-is_answered : goal.returns-else-is_answered
-returns-else-is_answered c = rw (sym c.is_answered.ensures ∙ c.if-is_answered.false)

@@ -1,18 +1,14 @@
--- `marks_after`. The invariant: the marks below i are d where the flag is set and 0 elsewhere, and the others are 0.
--- Assumes nothing.
-use mathlib.Core.Path.{ap, ◌∙◌}
+-- `marks_after`: each turn puts one mark in its place (`up_to_step`).
 use Rattle.base.specs.Below.{up_to}
 use Rattle.base.proofs.Below.{up_to_step}
-use native.Mathlib.Omega.{arith}
 use borrow.Author.Rules.{rules}
 use Rattle.open_effect.proofs.marks_after.Goals as goal
+use Rattle.open_effect.proofs.marks_after.Goals.{then-b-i, else-b-i}
 
 pub loop-i-init : goal.loop-i-init
 unfolding up_to
 loop-i-init c = search rules
 
 pub loop-i-preserved : goal.loop-i-preserved
-loop-i-preserved c = (search rules, up_to_step _ _ _ _ _ c.loop-i.invariant.1 c.mark_after.ensures)
-
-pub returns : goal.returns
-returns c = c.loop-i.invariant.1 ∙ ap (up_to _ _) (omega arith)
+loop-i-preserved c =
+    up_to_step _ _ _ _ _ c.loop-i.invariant (elim c.if-b-i.branch [ then-b-i w ↦ rw (w.marks-is, w.if-b-i.true) | else-b-i w ↦ rw (w.marks-is, w.if-b-i.false) ])

@@ -5,8 +5,8 @@ use Rattle.open_effect.proofs.opened.Goals as goal
 
 pub returns-then-is_answered : goal.returns-then-is_answered
 unfolding open_effect
-returns-then-is_answered c = λ x s media tables e n. rw (e, n, c.opened_server.ensures, sym c.is_answered.ensures ∙ c.if-is_answered.true, c.register_after-next.ensures)
+returns-then-is_answered c = λ x s media tables e n. rw (e, n, c.opened_server.ensures, sym c.is_answered.ensures ∙ c.if-is_answered.true, c.register_after-register.ensures)
 
 pub returns : goal.returns
 unfolding open_effect
-returns c = λ x s media tables e n. rw (e, n, c.idle.ensures, sym c.is_answered.ensures ∙ c.if-is_answered.false, c.register_after-next.ensures)
+returns c = λ x s media tables e n. rw (e, n, c.idle.ensures, sym c.is_answered.ensures ∙ c.if-is_answered.false, c.register_after-register.ensures)

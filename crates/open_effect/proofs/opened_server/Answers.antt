@@ -7,5 +7,5 @@ use Rattle.open_effect.proofs.opened_server.Goals as goal
 pub returns : goal.returns
 unfolding opened_server
 returns c =
-    let a = c.args in
-    rw (c.marks_after-marks.ensures ∙ marks_are a.v a.b.mark a.r a.b.clean c.requires.r_bound c.requires.clean_value, c.requires.clean_value)
+    let b = c.args.b.now in
+    rw (c.marks_after-marks.ensures ∙ marks_are b.server.now b.mark b.replicas b.clean b.within b.are_clean, b.are_clean)

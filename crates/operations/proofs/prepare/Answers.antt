@@ -9,7 +9,7 @@ close-requires c =
     let a = c.args in
     let p = c.requires in
     let n = c.renew-k in
-    omega (arith, n.auto.m, n.ensures.0, promising_le a.read.current a.read.slot a.session, p.as_read.size, p.as_read.mark, mark_le a.read.places a.m.now, p.given_len)
+    omega (arith, n.auto.m, n.ensures.0, promising_le a.read.current a.read.slot a.session, p.as_read.size, p.as_read.mark, mark_le a.read.places a.m.now)
 
 pub returns : goal.returns
 returns c =

@@ -34,9 +34,9 @@ returns-then-size c =
     let e : c.get_be-size.result ≡ size_of s = c.get_be-size.ensures.0 in
     (sym (bad_size n s c.if-s-ne-PLACE.false (omega (arith, e, c.if-size.true))), λ f. never f)
 
-pub returns-then-not-all_zero : goal.returns-then-not-all_zero
+pub returns-else-all_zero : goal.returns-else-all_zero
 unfolding id_of size_of
-returns-then-not-all_zero c =
+returns-else-all_zero c =
     let n = c.args.n in
     let s = c.args.s.now in
     let l : length s ≡ place_size = c.if-s-ne-PLACE.false in
@@ -44,11 +44,11 @@ returns-then-not-all_zero c =
     let e : c.get_be-size.result ≡ size_of s = c.get_be-size.ensures.0 in
     let z : size_of s ≤ data_limit = omega (arith, e, c.if-size.false) in
     let tail = c.all_zero.ensures ∙ ap all_zero (tail_is c.get_be-size.result s e) in
-    (sym (bad_tail n s l z i (sym tail ∙ c.if-not-all_zero.true)), λ f. never f)
+    rw c.if-all_zero.false (sym (bad_tail n s l z i (sym tail ∙ c.if-all_zero.false)), λ f. never f)
 
-pub returns : goal.returns
+pub returns-then-all_zero : goal.returns-then-all_zero
 unfolding id_of size_of
-returns c =
+returns-then-all_zero c =
     let n = c.args.n in
     let s = c.args.s.now in
     let l : length s ≡ place_size = c.if-s-ne-PLACE.false in
@@ -56,4 +56,4 @@ returns c =
     let e : c.get_be-size.result ≡ size_of s = c.get_be-size.ensures.0 in
     let z : size_of s ≤ data_limit = omega (arith, e, c.if-size.false) in
     let tail = c.all_zero.ensures ∙ ap all_zero (tail_is c.get_be-size.result s e) in
-    (by_zeros n s l z i (sym tail ∙ c.if-not-all_zero.false) ∙ ap (λ (b : Bool). b && checked (check_offset place_layout) s) (sym c.all_zero-2.ensures), λ f. (l, i))
+    (by_zeros n s l z i (sym tail ∙ c.if-all_zero.true) ∙ ap (λ (b : Bool). b && checked (check_offset place_layout) s) (sym c.all_zero-then-all_zero.ensures), λ f. (l, i))

@@ -1,21 +1,29 @@
--- `quorum::count_flags` meets its contract. The loop's invariant: n is the count of the flags below i.
+-- `quorum::count_flags` meets its contract: the flags that pass among the first r are the count below r.
 -- Assumes nothing.
-use mathlib.Core.Path.{ap, ◌∙◌}
-use native.Mathlib.Omega.{arith}
-use borrow.Author.Rules.{rules}
-use Rattle.base.specs.Below.{count}
-use Rattle.base.proofs.Below.{count_step, count_room}
+use Rattle.std.proofs.Common.{rules, ◌≡◌, refl, ap, sym, ◌∙◌, ℕ, zero, suc, ◌+◌, ◌≤◌, length, take, Bool, true, false, cond, List, [], ◌∷◌, arith}
+use Rattle.std.specs.List.{count_by}
+use Rattle.std.proofs.lemmas.List.Recursion.{is_count_by}
+use Rattle.base.specs.Below.{bit, count}
+use Rattle.base.proofs.Below.{count_front}
+use Rattle.quorum.specs.Vote.{flags_of}
 use Rattle.quorum.proofs.count_flags.Goals as goal
 
-pub loop-i-init : goal.loop-i-init
-unfolding count
-loop-i-init c = search rules
+raised : List Bool → ℕ
+raised [] = 0
+raised (b ∷ l) = cond b (1 + raised l) (raised l)
 
-pub overflow_add-n : goal.overflow_add-n
-overflow_add-n c = omega (arith, count_room _ _ _ _ c.loop-i.invariant.1 c.one_if-n.ensures)
+raised_next : (b : Bool) (n : ℕ) → cond b (1 + n) n ≡ bit b + n
+raised_next true n = refl
+raised_next false n = omega arith
 
-pub loop-i-preserved : goal.loop-i-preserved
-loop-i-preserved c = (search rules, count_step _ _ _ _ c.loop-i.invariant.1 c.one_if-n.ensures)
+counted : (l : List Bool) (r : ℕ) → r ≤ length l → raised (take r l) ≡ count (flags_of l) r
+unfolding count raised
+counted l zero h = refl
+counted [] (suc r) h = absurd (omega arith)
+counted (b ∷ l) (suc r) h = raised_next b (raised (take r l)) ∙ ap (λ (n : ℕ). bit b + n) (counted l r (omega arith)) ∙ sym (count_front (flags_of (b ∷ l)) r)
 
 pub returns : goal.returns
-returns c = c.loop-i.invariant.1 ∙ ap (count _) (omega arith)
+unfolding raised
+returns c =
+    let e : c.count.result ≡ count_by (λ (b : Bool). b) (take c.args.r c.args.flags) = search rules in
+    e ∙ sym (is_count_by raised (λ (b : Bool). b) refl (λ x xs. refl) (take c.args.r c.args.flags)) ∙ counted c.args.flags c.args.r (omega arith)

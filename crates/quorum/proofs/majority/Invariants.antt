@@ -1,13 +1,9 @@
 -- `quorum::majority` meets its contract. The loop's invariant: best is the highest backed mark of the replicas below i.
 -- Assumes nothing.
-use Prim.Native.Nat.{◌≤◌, ◌-◌}
 use mathlib.Core.Path.{◌≡◌}
 use Rattle.base.specs.Below.{highest}
 use Rattle.quorum.specs.Vote.{flags_of, marks_of, backed}
 use Rattle.quorum.proofs.majority.Given as goal
 
 abbrev pub invariant-loop-i : goal.invariant-loop-i
-invariant-loop-i l = (l.i ≤ l.r) × (l.best ≡ highest (backed (flags_of l.known) (marks_of l.marks) l.r) l.i)
-
-abbrev pub decreases-loop-i : goal.decreases-loop-i
-decreases-loop-i l = l.r - l.i
+invariant-loop-i l = l.best ≡ highest (backed (flags_of l.known) (marks_of l.marks) l.r) l.i

@@ -1,10 +1,11 @@
--- `quorum::reach_count` meets its contract. The loop's invariant: n is the count over the replicas below i.
+-- `quorum::reach_count` meets its contract: each turn adds the bit of its replica's test.
 -- Assumes nothing.
 use mathlib.Core.Path.{ap, ◌∙◌}
 use native.Mathlib.Omega.{arith}
 use borrow.Author.Rules.{rules}
 use Rattle.base.specs.Below.{bit, count}
 use Rattle.base.proofs.Below.{count_step, count_room}
+use Rattle.quorum.proofs.Laws.{bit_is}
 use Rattle.quorum.proofs.reach_count.Goals as goal
 
 pub loop-i-init : goal.loop-i-init
@@ -12,12 +13,10 @@ unfolding count
 loop-i-init c = search rules
 
 pub overflow_add-n : goal.overflow_add-n
-overflow_add-n c =
-    omega (arith, count_room _ _ _ _ c.loop-i.invariant.1 (c.one_if-n.ensures ∙ ap bit c.reaches.ensures))
+overflow_add-n c = omega (arith, count_room _ _ _ _ c.loop-i.invariant (bit_is _ ∙ ap bit c.reaches.ensures))
 
 pub loop-i-preserved : goal.loop-i-preserved
-loop-i-preserved c =
-    (search rules, count_step _ _ _ _ c.loop-i.invariant.1 (c.one_if-n.ensures ∙ ap bit c.reaches.ensures))
+loop-i-preserved c = count_step _ _ _ _ c.loop-i.invariant (bit_is _ ∙ ap bit c.reaches.ensures)
 
 pub returns : goal.returns
-returns c = c.loop-i.invariant.1 ∙ ap (count _) (omega arith)
+returns c = c.loop-i.invariant ∙ ap (count _) (omega arith)

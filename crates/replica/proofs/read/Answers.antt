@@ -9,18 +9,18 @@ returns-then-not-answers c =
     let a = c.args in
     unread a.places a.session a.recorded a.f a.m.now (sym c.answers.ensures ∙ c.if-not-answers.true)
 
-pub returns-then-j : goal.returns-then-j
-returns-then-j c =
+pub returns-in-Err : goal.returns-in-Err
+returns-in-Err c =
     let a = c.args in
     let d = c.read_medium-r.ensures in
-    let q = sym c.answers.ensures ∙ c.if-not-answers.false in
+    let j = c.in-Err.ensures in
     read_declining c.read_medium-r.result a.places a.m.now d.0 d.1 a.f a.session a.recorded _
-    (sym c.judged-j.ensures.0 ∙ c.if-j.true) (heard_said a.f _ _ q c.judged-j.ensures.1)
+    (sym j.declines) (heard_said a.f _ _ (sym c.answers.ensures ∙ c.if-not-answers.false) (j.says 0))
 
-pub returns : goal.returns
-returns c =
+pub returns-in-Ok : goal.returns-in-Ok
+returns-in-Ok c =
     let a = c.args in
     let d = c.read_medium-r.ensures in
-    let q = sym c.answers.ensures ∙ c.if-not-answers.false in
+    let j = c.in-Ok.ensures in
     reading c.read_medium-r.result a.places a.m.now d.0 d.1 a.f a.session a.recorded _
-    (sym c.judged-j.ensures.0 ∙ c.if-j.false) (heard_said a.f _ _ q refl)
+    (sym j.declines) (heard_said a.f _ _ (sym c.answers.ensures ∙ c.if-not-answers.false) refl)

@@ -7,4 +7,4 @@ pub returns : goal.returns
 returns c =
     let a = c.args in
     let d = c.read_medium-r.ensures in
-    c.judged-j.ensures.0 ∙ refuses_is c.read_medium-r.result a.places a.m.now d.0 d.1 a.session a.recorded
+    c.is_err.ensures.value ∙ c.judged.ensures.declines ∙ refuses_is c.read_medium-r.result a.places a.m.now d.0 d.1 a.session a.recorded

@@ -11,23 +11,21 @@ use Rattle.restore.proofs.restore.Goals as goal
 pub put_back-requires : goal.put_back-requires
 put_back-requires c =
     let a = c.args in record {
-      t_value = c.tables-t.ensures;
-      fits = fitting a.shape a.records a.media.now a.tables.now a.replica a.backup.now c.judge-k.ensures c.in-Pass.is;
+      fits = fitting a.shape a.records a.media.now a.tables.now a.replica a.backup.now c.in-Ok.ensures;
     }
 
-pub returns-in-Refuse : goal.returns-in-Refuse
+pub returns-in-Err : goal.returns-in-Err
 unfolding step
-returns-in-Refuse c =
+returns-in-Err c =
     let a = c.args in
     let x = state_of a.records a.media.now a.tables.now in
-    refused a.records a.media.now a.tables.now _ (rows_of a.shape x (restore_of a.replica a.backup.now)) [] c.judge-k.ensures c.in-Refuse.is c.declined.ensures
+    refused a.records a.media.now a.tables.now _ (rows_of a.shape x (restore_of a.replica a.backup.now)) [] c.in-Err.why c.in-Err.ensures c.declined.ensures
 
-pub returns-in-Pass : goal.returns-in-Pass
+pub returns-in-Ok : goal.returns-in-Ok
 unfolding step
-returns-in-Pass c =
+returns-in-Ok c =
     let a = c.args in
     let x = state_of a.records a.media.now a.tables.now in
-    let v = c.judge-k.ensures in
-    let q = c.in-Pass.is in
-    goes_on a.records a.media.now a.tables.now (restore_effect a.shape.places x a.replica a.backup.now) (rows_of a.shape x (restore_of a.replica a.backup.now)) [] v q
-    (nothing_more x (c.put_back.ensures a.shape.places a.tables.now (has_length a.shape a.records a.media.now a.tables.now a.replica a.backup.now v q)))
+    let v = c.in-Ok.ensures in
+    goes_on a.records a.media.now a.tables.now (restore_effect a.shape.places x a.replica a.backup.now) (rows_of a.shape x (restore_of a.replica a.backup.now)) [] v
+    (nothing_more x (c.put_back.ensures a.shape.places a.tables.now (has_length a.shape a.records a.media.now a.tables.now a.replica a.backup.now v)))

@@ -13,7 +13,6 @@ pub write_back-requires : goal.write_back-requires
 write_back-requires c =
     let a = c.args in
     let f = c.requires.fits in record {
-      t_value = c.requires.t_value;
       m_len = lent_length a.i (length a.backup.now) a.media.now f.within;
       slots_size_in_bounds = f.slots;
     }

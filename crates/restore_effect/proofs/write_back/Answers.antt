@@ -4,4 +4,4 @@ use Rattle.restore_effect.proofs.write_back.Goals as goal
 
 pub returns : goal.returns
 unfolding stored_slot
-returns c = rw (c.put-2.ensures, c.put.ensures, c.copy.ensures, c.encode.ensures, c.held-x.ensures, c.choose.ensures)
+returns c = rw (c.put-2.ensures, c.put.ensures, c.copy_from_slice.ensures.after, c.encode.ensures, c.held-x.ensures, c.choose.ensures)

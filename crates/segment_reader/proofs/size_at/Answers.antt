@@ -1,7 +1,8 @@
--- `judge::size_at`, by the cases of `sized`.
+-- `size_at`, by the cases of `sized`.
 use mathlib.Core.Path.{ap, ◌∙◌}
 use lib.ListN.{drop, length-drop}
 use native.Mathlib.Omega.{arith}
+use Rattle.std.specs.Prelude.{Some, ℕ}
 use Rattle.storage.specs.Places.{size_of}
 use Rattle.segment.proofs.Writing.{size_is}
 use Rattle.segment_reader.proofs.RecordTests.{is_sized}
@@ -25,4 +26,4 @@ returns c =
     let a = c.args in
     let s = drop a.at a.file.now in
     let k = c.length_field-k.ensures ∙ ap size_of (to_end a.at a.file.now) in
-    rw ((is_sized s).1 (record { inside = omega (arith, length-drop a.at a.file.now, c.if-file-at.false); short = omega (arith, k, c.if-k.false) })) (omega (arith, size_is s, k))
+    rw ((is_sized s).1 (record { inside = omega (arith, length-drop a.at a.file.now, c.if-file-at.false); short = omega (arith, k, c.if-k.false) })) (ap (λ (n : ℕ). Some n) (omega (arith, size_is s, k)))

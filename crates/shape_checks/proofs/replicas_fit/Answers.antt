@@ -1,20 +1,13 @@
--- `checks::replicas_fit`: the tests for 1, 3, 5 and 7 are the definition's, in its order (`guards`).
-use Rattle.base.proofs.Tests.{guards}
+-- `replicas_fit`: 1, 3, 5 and 7 are the definition's.
+use native.Mathlib.Omega.{arith}
+use Rattle.std.proofs.lemmas.Bool.Decides.{nat_tests}
 use Rattle.cluster.specs.Refusals.{replicas_fit}
 use Rattle.shape_checks.proofs.replicas_fit.Goals as goal
 
-pub returns-then-r-eq1 : goal.returns-then-r-eq1
+pub returns-in-1 : goal.returns-in-1
 unfolding replicas_fit
-returns-then-r-eq1 c = search guards depth 12
+returns-in-1 c = grind (arith, nat_tests)
 
-pub returns-then-r-eq3 : goal.returns-then-r-eq3
+pub returns-in_default : goal.returns-in_default
 unfolding replicas_fit
-returns-then-r-eq3 c = search guards depth 12
-
-pub returns-then-r-eq5 : goal.returns-then-r-eq5
-unfolding replicas_fit
-returns-then-r-eq5 c = search guards depth 12
-
-pub returns : goal.returns
-unfolding replicas_fit
-returns c = search guards depth 12
+returns-in_default c = grind (arith, nat_tests)

@@ -5,8 +5,8 @@ use Rattle.take_effect.proofs.taken.Goals as goal
 
 pub returns-then-is_answered : goal.returns-then-is_answered
 unfolding take_effect
-returns-then-is_answered c = λ r s media tables e. rw (e, c.opening.ensures, sym c.is_answered.ensures ∙ c.if-is_answered.true, c.raised-next.ensures)
+returns-then-is_answered c = λ r s media tables e. rw (e, c.opening.ensures, sym c.is_answered.ensures ∙ c.if-is_answered.true, c.raised-register.ensures)
 
 pub returns : goal.returns
 unfolding take_effect
-returns c = λ r s media tables e. rw (e, c.idle.ensures, sym c.is_answered.ensures ∙ c.if-is_answered.false, c.raised-next.ensures)
+returns c = λ r s media tables e. rw (e, c.idle.ensures, sym c.is_answered.ensures ∙ c.if-is_answered.false, c.raised-register.ensures)

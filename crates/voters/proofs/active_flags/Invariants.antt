@@ -2,13 +2,9 @@
 -- Assumes nothing.
 use mathlib.Core.Path.{◌≡◌}
 use mathlib.Core.Bool.{◌&&◌, not, false}
-use Prim.Native.Nat.{◌-◌, ◌≤◌}
 use lib.ListN.{get_or, replicate}
 use Rattle.base.specs.Below.{up_to}
 use Rattle.voters.proofs.active_flags.Given as goal
 
 abbrev pub invariant-loop-i : goal.invariant-loop-i
-invariant-loop-i l = (l.i ≤ 7) × (l.flags ≡ up_to (λ j. get_or l.known j false && not (get_or l.dropped j false)) (replicate 7 false) l.i)
-
-abbrev pub decreases-loop-i : goal.decreases-loop-i
-decreases-loop-i l = 7 - l.i
+invariant-loop-i l = l.flags ≡ up_to (λ j. get_or l.known j false && not (get_or l.dropped j false)) (replicate 7 false) l.i

@@ -1,7 +1,6 @@
 -- `others`. The invariant: the flags below i say which replicas are flagged and not restored, and the others are false.
 use mathlib.Core.Path.{◌≡◌}
 use mathlib.Core.Bool.{◌&&◌, not, false}
-use Prim.Native.Nat.{◌-◌, ◌≤◌}
 use lib.ListN.{get_or, replicate}
 use Rattle.base.specs.Below.{up_to}
 use Rattle.cluster.specs.State.{entry_at, is_restored}
@@ -9,7 +8,4 @@ use Rattle.voters.proofs.others.Given as goal
 
 abbrev pub invariant-loop-i : goal.invariant-loop-i
 invariant-loop-i l =
-    (l.i ≤ 7) × (l.out ≡ up_to (λ j. get_or l.flags j false && not (is_restored (entry_at l.entries j).closing)) (replicate 7 false) l.i)
-
-abbrev pub decreases-loop-i : goal.decreases-loop-i
-decreases-loop-i l = 7 - l.i
+    l.out ≡ up_to (λ j. get_or l.flags j false && not (is_restored (entry_at l.entries j).closing)) (replicate 7 false) l.i

@@ -12,7 +12,7 @@ loop-b-smaller c = omega arith
 
 pub loop-b-preserved : goal.loop-b-preserved
 loop-b-preserved c = (
-  rw (c.add_odd-acc.ensures, c.wrapping_add_u64-a.ensures.value) (turn _ _ _ _ ∙ c.loop-b.invariant.0),
+  rw c.add_odd-acc.ensures (turn _ _ _ _ ∙ c.loop-b.invariant.0),
   rw c.add_odd-acc.ensures (mod-lt _ (omega arith)),
 )
 

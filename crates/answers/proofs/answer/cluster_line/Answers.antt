@@ -23,9 +23,8 @@ start-requires c =
 pub returns : goal.returns
 returns c =
     let a = c.args in
-    let p = c.requires in
     let r = c.start in
     let e = sym c.is_accepted.ensures ∙ c.if-not-is_accepted.false in
     let y = r.new.m in
     let z = r.new.tables in
-    accepted_line a.shape a.h a.m.now a.tables.now y z c.size-n.result a.blank e (search rules) (blank_start a.shape a.blank r.result y z p.t_value.1 r.ensures)
+    accepted_line a.shape a.h a.m.now a.tables.now y z c.size-n.result a.blank.now.records e (search rules) (blank_start a.shape a.blank.now.records r.result y z a.blank.now.are_fresh r.ensures)

@@ -15,7 +15,6 @@ pub has_slot-requires : goal.has_slot-requires
 has_slot-requires c =
     let a = c.args in
     let l = lengths_are c.places_of-n.result (length a.before.now) (length a.after.now) (sym c.are_lengths_of.ensures ∙ c.if-not-are_lengths_of.false) in record {
-      t_value = c.tables-t.ensures;
       slots_size_in_bounds = omega (arith, l.before);
     }
 
@@ -30,7 +29,6 @@ pub write_new-requires : goal.write_new-requires
 write_new-requires c =
     let a = c.args in
     let l = lengths_are _ (length a.before.now) (length a.after.now) (sym c.are_lengths_of.ensures ∙ c.if-not-are_lengths_of.false) in record {
-      t_value = c.tables-t.ensures;
       m_len = l.before;
       out_len = l.after;
     }

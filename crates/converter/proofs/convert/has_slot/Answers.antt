@@ -10,11 +10,11 @@ unfolding has_slot
 returns-then-valid c =
     let m = c.args.m.now in
     let v : valid_slot (first_of m) ≡ true = sym c.valid.ensures ∙ c.if-valid.true in
-    rw v
+    rw v c.if-valid.true
 
-pub returns : goal.returns
+pub returns-else-valid : goal.returns-else-valid
 unfolding has_slot
-returns c =
+returns-else-valid c =
     let m = c.args.m.now in
     let v : valid_slot (first_of m) ≡ false = sym c.valid.ensures ∙ c.if-valid.false in
-    rw v c.valid-2.ensures
+    rw v c.valid-else-valid.ensures

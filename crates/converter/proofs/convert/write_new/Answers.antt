@@ -3,11 +3,11 @@ use native.Mathlib.Omega.{arith}
 use Rattle.converter.proofs.Converting.{mark_le, all_written}
 use Rattle.converter.proofs.convert.write_new.Goals as goal
 
-pub overflow_mul-a : goal.overflow_mul-a
-overflow_mul-a c = omega (arith, c.renew_log-k.ensures.0, mark_le c.args.places c.args.m.now, c.requires.out_len, c.well_formed)
+pub overflow_mul-k : goal.overflow_mul-k
+overflow_mul-k c = omega (arith, c.renew_log-k.ensures.0, mark_le c.args.places c.args.m.now, c.requires.out_len, c.well_formed)
 
-pub overflow_add-a : goal.overflow_add-a
-overflow_add-a c = omega (arith, c.renew_log-k.ensures.0, mark_le c.args.places c.args.m.now, c.requires.out_len, c.well_formed)
+pub overflow_add-k : goal.overflow_add-k
+overflow_add-k c = omega (arith, c.renew_log-k.ensures.0, mark_le c.args.places c.args.m.now, c.requires.out_len, c.well_formed)
 
 pub slice_bounds-clear-count : goal.slice_bounds-clear-count
 slice_bounds-clear-count c = omega (arith, c.renew_log-k.ensures.0, mark_le c.args.places c.args.m.now, c.requires.out_len)

@@ -13,29 +13,29 @@ use Rattle.export_calls.proofs.export.export.Goals as goal
 pub export_admitted-requires : goal.export_admitted-requires
 export_admitted-requires c =
     let a = c.args in
-    let d = admits a.shape a.records a.media.now a.tables.now a.server (no_replica_at a.shape.replicas a.replica) only_open (c.admit_replica-k.ensures a.media.now a.tables.now refl refl) c.in-Pass.is in
+    let d = admits a.shape a.records a.media.now a.tables.now a.server (no_replica_at a.shape.replicas a.replica) only_open (c.in-Ok.ensures a.media.now a.tables.now refl refl) in
     (named a.shape _ a.server a.replica _ _ d.0 (leb-false _ _ d.1), d.0.server)
 
-pub returns-in-Refuse : goal.returns-in-Refuse
-returns-in-Refuse c =
+pub returns-in-Err : goal.returns-in-Err
+returns-in-Err c =
     let a = c.args in
     let x = state_of a.records a.media.now a.tables.now in
     let rows = replica_rows a.shape x a.server (no_replica_at a.shape.replicas a.replica) only_open in
     let e =
-    refused a.records a.media.now a.tables.now _ rows _ (c.admit_replica-k.ensures a.media.now a.tables.now refl refl) c.in-Refuse.is c.declined.ensures
+    refused a.records a.media.now a.tables.now _ rows _ _ (c.in-Err.ensures a.media.now a.tables.now refl refl) c.declined.ensures
     ∙ sym (export_whole a.shape x a.server a.replica a.fate a.given.now a.stamp a.file.now a.index.now) in (
       e,
       files_whole a.shape x a.server a.replica a.fate a.given.now a.stamp a.file.now a.index.now e
           (declined_files a.records (exported_pair a.shape.places x a.server a.replica a.stamp) (files_of a.file.now a.index.now) c.declined.ensures),
     )
 
-pub returns-in-Pass : goal.returns-in-Pass
-returns-in-Pass c =
+pub returns-in-Ok : goal.returns-in-Ok
+returns-in-Ok c =
     let a = c.args in
     let x = state_of a.records a.media.now a.tables.now in
     let rows = replica_rows a.shape x a.server (no_replica_at a.shape.replicas a.replica) only_open in
     let e =
-    goes_on a.records a.media.now a.tables.now _ rows _ (c.admit_replica-k.ensures a.media.now a.tables.now refl refl) c.in-Pass.is
+    goes_on a.records a.media.now a.tables.now _ rows _ (c.in-Ok.ensures a.media.now a.tables.now refl refl)
     (c.export_admitted.ensures.0 a.tables.now)
     ∙ sym (export_whole a.shape x a.server a.replica a.fate a.given.now a.stamp a.file.now a.index.now) in (
       e,

@@ -7,21 +7,21 @@ use Rattle.checks.proofs.Frame.{refused, goes_on}
 use Rattle.export_calls.proofs.Exporting.{declined_files}
 use Rattle.export_calls.proofs.export.export_admitted.Goals as goal
 
-pub returns-in-Refuse : goal.returns-in-Refuse
-returns-in-Refuse c =
+pub returns-in-Err : goal.returns-in-Err
+returns-in-Err c =
     let a = c.args in
     let v = server_at a.records a.s in (
       λ tables.
-          refused a.records a.media.now tables _ (message_rows a.shape v a.i a.fate a.given.now) _ c.check_message-k.ensures c.in-Refuse.is c.declined.ensures,
+          refused a.records a.media.now tables _ (message_rows a.shape v a.i a.fate a.given.now) _ _ c.in-Err.ensures c.declined.ensures,
       declined_files a.records (pair_of a.stamp (exported_places a.shape.places v a.i a.media.now)) (files_of a.file.now a.index.now) c.declined.ensures,
     )
 
-pub returns-in-Pass : goal.returns-in-Pass
-returns-in-Pass c =
+pub returns-in-Ok : goal.returns-in-Ok
+returns-in-Ok c =
     let a = c.args in
     let v = server_at a.records a.s in (
       λ tables.
-          goes_on a.records a.media.now tables _ (message_rows a.shape v a.i a.fate a.given.now) _ c.check_message-k.ensures c.in-Pass.is
+          goes_on a.records a.media.now tables _ (message_rows a.shape v a.i a.fate a.given.now) _ c.in-Ok.ensures
           (c.export_sent.ensures.0 a.given.now tables),
       c.export_sent.ensures.1,
     )

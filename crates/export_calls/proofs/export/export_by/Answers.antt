@@ -9,12 +9,12 @@ returns-in_default c =
     let a = c.args in
     not_exported a.records a.s a.i _ _ (files_of a.file.now a.index.now) a.heard c.in_default.not-Mark c.read_by.ensures
 
-pub other_sizes-requires : goal.other_sizes-requires
-other_sizes-requires c =
+pub invariant_of-log : goal.invariant_of-log
+invariant_of-log c =
     let p = c.requires in record {
-      k_in_bounds = p.k_in_bounds.0;
-      all_sized = p.by_index _ c.in-Mark.is;
-      k_le_places_limit = p.k_in_bounds.1;
+      inside = p.k_in_bounds.0;
+      sized = p.by_index _ c.in-Mark.is;
+      few = p.k_in_bounds.1;
     }
 
 pub returns-then-other_sizes : goal.returns-then-other_sizes
@@ -26,13 +26,8 @@ returns-then-other_sizes c =
 pub write_pair-requires : goal.write_pair-requires
 write_pair-requires c =
     let a = c.args in
-    let p = c.requires in
     let files = files_of a.file.now a.index.now in
     let l = exact a.k a.m.now files (sym (c.other_sizes.ensures files refl refl) ∙ c.if-other_sizes.false) in record {
-      t_value = p.t_value;
-      k_in_bounds = p.k_in_bounds.0;
-      all_sized = p.by_index _ c.in-Mark.is;
-      k_le_places_limit = p.k_in_bounds.1;
       file_len = l.0;
       index_len = l.1;
     }

@@ -1,41 +1,35 @@
--- `journal_place_check` meets its contract: each branch decides one of the definition's tests, in their order.
+-- `journal_place_check` meets its contract: its tests are the definition's, in its order.
 -- Assumes nothing.
-use mathlib.Core.Path.{◌≡◌, ap}
-use mathlib.Core.Bool.{Bool, true, false}
-use mathlib.Core.List.{List}
-use Prim.Native.Nat.{ℕ}
+use mathlib.Core.Path.{◌≡◌, refl, ap, ◌∙◌}
+use mathlib.Core.Bool.{Bool, true, false, ◌&&◌}
 use mir.Val.{bool_byte}
+use lib.Dec.{eqb, leb}
+use lib.ListN.{length}
 use Rattle.base.specs.Below.{bit}
 use Rattle.base.proofs.Tests.{guards}
+use Rattle.storage.specs.Sizes.{place_size}
 use Rattle.journal.specs.Exported.{is_place}
+use Rattle.journal.proofs.exported.journal_place_check.Goals.{then-bytes-eq-PLACE, else-bytes-eq-PLACE, then-contains, else-contains}
 use Rattle.journal.proofs.exported.journal_place_check.Goals as goal
 
--- a test that comes to the definition's, cast to a number
-
-answer : (t : Bool) (s : List ℕ) (n : ℕ) → t ≡ is_place s n → bool_byte t ≡ bit (is_place s n)
-answer true s n e = ap bit e
-answer false s n e = ap bit e
-
-pub returns-then-bytes-ne-PLACE : goal.returns-then-bytes-ne-PLACE
-unfolding is_place
-returns-then-bytes-ne-PLACE c =
-    let a = c.args in
-    answer false a.bytes.now a.number (search guards)
-
-pub returns-then-number-lt1 : goal.returns-then-number-lt1
-unfolding is_place
-returns-then-number-lt1 c =
-    let a = c.args in
-    answer false a.bytes.now a.number (search guards)
-
-pub returns-then-number-gt-MOST_PLACES : goal.returns-then-number-gt-MOST_PLACES
-unfolding is_place
-returns-then-number-gt-MOST_PLACES c =
-    let a = c.args in
-    answer false a.bytes.now a.number (search guards)
+-- a test as a number
+number_of : (t : Bool) → bool_byte t ≡ bit t
+number_of true = refl
+number_of false = refl
 
 pub returns : goal.returns
 unfolding is_place
 returns c =
-    let a = c.args in
-    answer c.valid.result a.bytes.now a.number (search guards)
+    let s = c.args.bytes.now in
+    let n = c.args.number in
+    let fits : c.if-bytes-eq-PLACE.value ≡ (eqb (length s) place_size && leb 1 n && leb n 1000) =
+    elim c.if-bytes-eq-PLACE.branch [
+      | then-bytes-eq-PLACE w ↦ search guards
+      | else-bytes-eq-PLACE w ↦ search guards
+    ] in
+    let all : c.if-contains.is_place ≡ is_place s n =
+    elim c.if-contains.branch [
+      | then-contains w ↦ search guards
+      | else-contains w ↦ search guards
+    ] in
+    c.from.ensures ∙ number_of c.if-contains.is_place ∙ ap bit all

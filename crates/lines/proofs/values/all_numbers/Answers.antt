@@ -1,25 +1,26 @@
 -- `values::all_numbers`. The invariant: whether the fields left are numbers decides.
 -- Assumes nothing.
-use mathlib.Core.Path.{refl, sym, ap, ◌∙◌}
-use Prim.Native.Nat.{◌-◌}
-use Rattle.lines.specs.Values.{is_number, all_numbers}
-use Rattle.lines.proofs.Numbers.{of_first, all_stop, all_next, all_end}
+use mathlib.Core.Path.{◌≡◌, sym, ap, ◌∙◌}
+use mathlib.Core.Bool.{true, false}
+use Prim.Native.Nat.{◌+◌, ◌-◌}
+use Rattle.std.proofs.Common.{arith}
+use Rattle.std.specs.Prelude.{is_some}
+use Rattle.text.specs.Text.{number_of, first_of}
+use Rattle.lines.specs.Values.{all_numbers}
+use Rattle.lines.proofs.Numbers.{all_stop, all_next, all_end}
 use Rattle.lines.proofs.values.all_numbers.Goals as goal
 
-pub loop-left-init : goal.loop-left-init
-loop-left-init c = refl
+pub returns-then-is_none : goal.returns-then-is_none
+returns-then-is_none c =
+    let l = c.loop-i in
+    let e : is_some (number_of (first_of l.t.now)) ≡ false = grind arith in
+    sym (l.invariant ∙ all_stop c.args.n l._i _ c.loop-i-test.true e)
 
-pub returns-then-not-is_number : goal.returns-then-not-is_number
-returns-then-not-is_number c =
-    let l = c.loop-left in
-    let e = of_first is_number _ _ _ _ c.is_number.ensures c.decimal.ensures c.first.ensures in
-    sym (l.invariant ∙ all_stop l.left _ c.loop-left-test.true (sym e ∙ c.if-not-is_number.true))
-
-pub loop-left-preserved : goal.loop-left-preserved
-loop-left-preserved c =
-    let l = c.loop-left in
-    let e = of_first is_number _ _ _ _ c.is_number.ensures c.decimal.ensures c.first.ensures in
-    l.invariant ∙ all_next l.left _ c.loop-left-test.true (sym e ∙ c.if-not-is_number.false) ∙ ap (all_numbers (l.left - 1)) (sym c.behind-rest.ensures)
+pub loop-i-preserved : goal.loop-i-preserved
+loop-i-preserved c =
+    let l = c.loop-i in
+    let e : is_some (number_of (first_of l.t.now)) ≡ true = grind arith in
+    l.invariant ∙ all_next c.args.n l._i _ c.loop-i-test.true e ∙ ap (all_numbers (c.args.n - (l._i + 1))) (sym c.behind-t.ensures)
 
 pub returns : goal.returns
-returns c = sym (c.loop-left.invariant ∙ all_end _ _ c.loop-left-test.false)
+returns c = sym (c.loop-i.invariant ∙ all_end c.args.n c.loop-i._i _ c.loop-i-test.false)

@@ -8,22 +8,22 @@ use Rattle.checks.specs.Results.{state_of}
 use Rattle.checks.proofs.Frame.{refused, goes_on, nothing_more, admitted}
 use Rattle.local_calls.proofs.stop.stop.Goals as goal
 
-pub returns-in-Refuse : goal.returns-in-Refuse
+pub returns-in-Err : goal.returns-in-Err
 unfolding step
-returns-in-Refuse c =
+returns-in-Err c =
     let a = c.args in
     let x = state_of a.records a.media.now a.tables.now in
-    refused a.records a.media.now a.tables.now _ (server_rows a.shape x a.server) [] (c.admit_server-k.ensures a.media.now a.tables.now refl refl) c.in-Refuse.is c.declined.ensures
+    refused a.records a.media.now a.tables.now _ (server_rows a.shape x a.server) [] c.in-Err.why (c.in-Err.ensures a.media.now a.tables.now refl refl) c.declined.ensures
 
 pub settle-requires : goal.settle-requires
 settle-requires c =
     let a = c.args in
-    (admitted a.shape a.records a.media.now a.tables.now a.server [] (c.admit_server-k.ensures a.media.now a.tables.now refl refl) c.in_default.is).server
+    (admitted a.shape a.records a.media.now a.tables.now a.server [] (c.in_default.ensures a.media.now a.tables.now refl refl)).server
 
 pub returns : goal.returns
 unfolding step stop_effect
 returns c =
     let a = c.args in
     let x = state_of a.records a.media.now a.tables.now in
-    goes_on a.records a.media.now a.tables.now (stop_effect x a.server) (server_rows a.shape x a.server) [] (c.admit_server-k.ensures a.media.now a.tables.now refl refl) c.in_default.is
+    goes_on a.records a.media.now a.tables.now (stop_effect x a.server) (server_rows a.shape x a.server) [] (c.in_default.ensures a.media.now a.tables.now refl refl)
     (nothing_more x (rw (c.settle.ensures, c.idle.ensures)))

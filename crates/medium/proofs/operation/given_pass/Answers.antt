@@ -6,6 +6,7 @@ use Rattle.storage.specs.Places.{id_of, valid_place}
 use Rattle.storage.proofs.GivenCases.{as_slot, as_none, as_named}
 use native.Mathlib.Omega.{arith}
 use Rattle.medium.proofs.operation.given_pass.Goals as goal
+use Rattle.medium.proofs.operation.given_pass.Goals.{then-n-eq0-via-then-n-eq0, then-n-eq0-via-else-n-eq0+then-places-n}
 
 pub returns-then-valid : goal.returns-then-valid
 returns-then-valid c =
@@ -16,13 +17,11 @@ pub returns-then-n-eq0 : goal.returns-then-n-eq0
 unfolding id_of
 returns-then-n-eq0 c =
     let a = c.args in
-    as_none a.g.now a.places (sym c.valid.ensures ∙ c.if-valid.false) (inl (sym c.get_be-n.ensures.0 ∙ c.if-n-eq0.true))
-
-pub returns-then-places-n : goal.returns-then-places-n
-unfolding id_of
-returns-then-places-n c =
-    let a = c.args in
-    as_none a.g.now a.places (sym c.valid.ensures ∙ c.if-valid.false) (inr (rw (← c.get_be-n.ensures.0) c.if-places-n.true))
+    let no = sym c.valid.ensures ∙ c.if-valid.false in
+    elim c.then-n-eq0.branch [
+      | then-n-eq0-via-then-n-eq0 w ↦ as_none a.g.now a.places no (inl (sym c.get_be-n.ensures.0 ∙ w.if-n-eq0.true))
+      | then-n-eq0-via-else-n-eq0+then-places-n w ↦ as_none a.g.now a.places no (inr (rw (← c.get_be-n.ensures.0) w.if-places-n.true))
+    ]
 
 pub returns : goal.returns
 unfolding id_of

@@ -11,18 +11,18 @@ use Rattle.reading_calls.proofs.read.read.Goals as goal
 pub read_admitted-requires : goal.read_admitted-requires
 read_admitted-requires c =
     let a = c.args in
-    let d = admits a.shape a.records a.media.now a.tables.now a.server (no_replica_at a.shape.replicas a.replica) only_open (c.admit_replica-k.ensures a.media.now a.tables.now refl refl) c.in-Pass.is in
+    let d = admits a.shape a.records a.media.now a.tables.now a.server (no_replica_at a.shape.replicas a.replica) only_open (c.in-Ok.ensures a.media.now a.tables.now refl refl) in
     (named a.shape _ a.server a.replica _ _ d.0 (leb-false _ _ d.1), d.0.server)
 
-pub returns-in-Refuse : goal.returns-in-Refuse
-returns-in-Refuse c =
+pub returns-in-Err : goal.returns-in-Err
+returns-in-Err c =
     let a = c.args in
-    refused a.records a.media.now a.tables.now _ (replica_rows a.shape (state_of a.records a.media.now a.tables.now) a.server (no_replica_at a.shape.replicas a.replica) only_open) _ (c.admit_replica-k.ensures a.media.now a.tables.now refl refl) c.in-Refuse.is c.declined.ensures
+    refused a.records a.media.now a.tables.now _ (replica_rows a.shape (state_of a.records a.media.now a.tables.now) a.server (no_replica_at a.shape.replicas a.replica) only_open) _ _ (c.in-Err.ensures a.media.now a.tables.now refl refl) c.declined.ensures
     ∙ sym (read_whole a.shape (state_of a.records a.media.now a.tables.now) a.server a.replica a.id a.fate a.given.now)
 
-pub returns-in-Pass : goal.returns-in-Pass
-returns-in-Pass c =
+pub returns-in-Ok : goal.returns-in-Ok
+returns-in-Ok c =
     let a = c.args in
-    goes_on a.records a.media.now a.tables.now _ (replica_rows a.shape (state_of a.records a.media.now a.tables.now) a.server (no_replica_at a.shape.replicas a.replica) only_open) _ (c.admit_replica-k.ensures a.media.now a.tables.now refl refl) c.in-Pass.is
+    goes_on a.records a.media.now a.tables.now _ (replica_rows a.shape (state_of a.records a.media.now a.tables.now) a.server (no_replica_at a.shape.replicas a.replica) only_open) _ (c.in-Ok.ensures a.media.now a.tables.now refl refl)
     (c.read_admitted.ensures a.tables.now)
     ∙ sym (read_whole a.shape (state_of a.records a.media.now a.tables.now) a.server a.replica a.id a.fate a.given.now)

@@ -11,11 +11,10 @@ use Rattle.storage.specs.Layout.{check_offset}
 use Rattle.storage.specs.Sizes.{place_layout, place_size}
 use Rattle.scan.proofs.SideBySide.{fit_next}
 use native.Mathlib.Omega.{arith}
-use borrow.Author.Rules.{rules}
 use Rattle.scan.proofs.groups.all_fit.Goals as goal
 
 pub loop-j-init : goal.loop-j-init
-loop-j-init c = (search rules, omega arith, λ i h. absurd (omega arith))
+loop-j-init c = (omega arith, λ i h. absurd (omega arith))
 
 pub returns-then-not-fields_fit : goal.returns-then-not-fields_fit
 returns-then-not-fields_fit c = λ e. absurd (subst T (sym e) tt)
@@ -27,13 +26,12 @@ loop-j-preserved c =
     let p = take (l.a + place_size - l.a) (drop l.a x.s.now) in
     let b = c.if-not-fields_fit.false in
     let f = c.fields_fit.ensures in (
-      search rules,
-      omega (arith, l.invariant.1),
-      fit_next x.n l.j x.s.now p (between_part l.a place_size x.s.now ∙ ap (λ (o : ℕ). part o place_size x.s.now) l.invariant.1)
-          (f.0 ∙ ap (λ (t : Bool). t && checked (check_offset place_layout) p) b) (f.1 b).1 l.invariant.2,
+      omega (arith, l.invariant.0),
+      fit_next x.n l.j x.s.now p (between_part l.a place_size x.s.now ∙ ap (λ (o : ℕ). part o place_size x.s.now) l.invariant.0)
+          (f.0 ∙ ap (λ (t : Bool). t && checked (check_offset place_layout) p) b) (f.1 b).1 l.invariant.1,
     )
 
 pub returns : goal.returns
 returns c = λ e j h.
     let l = c.loop-j in
-    l.invariant.2 j (omega (arith, c.loop-j-test.false))
+    l.invariant.1 j (omega (arith, c.loop-j-test.false))

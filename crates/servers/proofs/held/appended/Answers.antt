@@ -19,8 +19,8 @@ room others held a b =
 
 pub slice_bounds-next-end-2 : goal.slice_bounds-next-end-2
 slice_bounds-next-end-2 c =
-    room c.copy.new.dst c.args.held
-    (omega (arith, c.copy.auto)) (omega (arith, c.well_formed))
+    room c.copy_from_slice.new.self c.args.held
+    (omega (arith, c.copy_from_slice.auto)) (omega (arith, c.well_formed))
 
 pub returns : goal.returns
 returns c =
@@ -28,6 +28,6 @@ returns c =
     let size : length a.held ≡ held_size = omega (arith, c.well_formed) in
     in_place a.held (record_bytes a.fields a.content.now) size
     (sym (ap length c.encode.ensures) ∙ omega (arith, c.encode.auto))
-    c.copy.new.dst c.encode.new.out
-    (c.copy.ensures ∙ take_all (held_size - place_size) (drop place_size a.held) (omega (arith, size, length-drop place_size a.held)))
+    c.copy_from_slice.new.self c.encode.new.out
+    (c.copy_from_slice.ensures.after ∙ take_all (held_size - place_size) (drop place_size a.held) (omega (arith, size, length-drop place_size a.held)))
     c.encode.ensures

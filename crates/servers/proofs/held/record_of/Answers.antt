@@ -9,4 +9,4 @@ use Rattle.servers.proofs.held.record_of.Goals as goal
 pub returns : goal.returns
 returns c =
     let held = c.args.held.now in
-    c.copy.ensures ∙ between_part c.offset_of-at.result place_size held ∙ ap (λ (k : ℕ). part k place_size held) c.offset_of-at.ensures
+    c.copy_from_slice.ensures.after ∙ between_part c.offset_of-at.result place_size held ∙ ap (λ (k : ℕ). part k place_size held) c.offset_of-at.ensures

@@ -1,18 +1,15 @@
--- `line::after`. The invariant: what is sought is as many tabs further in what is left of the line. The measure is that number of tabs.
+-- `line::after`. The invariant: what is sought is as many tabs further in what is left of the line.
 -- Assumes nothing.
-use mathlib.Core.Path.{refl, sym, ap, ◌∙◌}
-use Prim.Native.Nat.{◌-◌}
+use mathlib.Core.Path.{sym, ap, ◌∙◌}
+use Prim.Native.Nat.{◌+◌, ◌-◌}
 use Rattle.text.specs.Text.{after_of}
 use Rattle.text.proofs.Fields.{after_next, after_end}
 use Rattle.text.proofs.line.after.Goals as goal
 
-pub loop-left-init : goal.loop-left-init
-loop-left-init c = refl
-
-pub loop-left-preserved : goal.loop-left-preserved
-loop-left-preserved c =
-    let l = c.loop-left in
-    l.invariant ∙ after_next l.left _ c.loop-left-test.true ∙ ap (after_of (l.left - 1)) (sym c.behind-rest.ensures)
+pub loop-i-preserved : goal.loop-i-preserved
+loop-i-preserved c =
+    let l = c.loop-i in
+    l.invariant ∙ after_next c.args.k l._i _ c.loop-i-test.true ∙ ap (after_of (c.args.k - (l._i + 1))) (sym c.behind-s.ensures)
 
 pub returns : goal.returns
-returns c = sym (c.loop-left.invariant ∙ after_end _ _ c.loop-left-test.false)
+returns c = sym (c.loop-i.invariant ∙ after_end c.args.k c.loop-i._i _ c.loop-i-test.false)

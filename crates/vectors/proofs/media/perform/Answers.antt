@@ -1,15 +1,10 @@
 -- `media::perform`: an operation that has its place, on a medium that was read.
 -- Assumes nothing.
-use borrow.Author.Rules.{rules}
 use Rattle.vectors.proofs.media.perform.Goals as goal
 
 pub perform-requires : goal.perform-requires
 perform-requires c =
-    let p = c.requires in
     let r = c.read_medium-r.ensures in record {
-      t_value = p.t_value;
       as_read = r.1;
       has_place = rw r.0 (c.has_place.ensures c.if-not-has_place.false);
-      src_len = search rules;
-      given_len = p.given_len;
     }

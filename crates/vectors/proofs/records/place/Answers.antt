@@ -4,10 +4,6 @@ use mathlib.Core.Path.{sym, ◌∙◌}
 use Rattle.storage.proofs.PlaceCases.{valid_tests}
 use Rattle.vectors.proofs.records.place.Goals as goal
 
-pub tell-requires : goal.tell-requires
-tell-requires g c =
-    let b = c.read.new.out in
-    let v = valid_tests _ b (sym c.valid.ensures ∙ c.if-not-valid.false) in record {
-      b_len = v.size;
-      b_bound = v.short;
-    }
+pub tell-requires-clause-b_bound : goal.tell-requires-clause-b_bound
+tell-requires-clause-b_bound g c =
+    let v = valid_tests _ _ (sym c.valid.ensures ∙ c.if-valid.true) in v.short

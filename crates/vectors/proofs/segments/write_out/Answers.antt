@@ -8,15 +8,15 @@ use Rattle.storage.proofs.Scan.{mark_le}
 use Rattle.segment.proofs.Writing.{all_sized, sizes_bound}
 use Rattle.vectors.proofs.segments.write_out.Goals as goal
 
-pub data_size-size-requires : goal.data_size-size-requires
-data_size-size-requires g c =
+pub invariant_of-log : goal.invariant_of-log
+invariant_of-log g c =
     let a = c.args in
     let p = c.requires in
     let m = a.m.now in
     let l = mark_le a.places m in record {
-      k_in_bounds = omega (arith, p, l, c.mark-k.ensures);
-      all_sized = all_sized a.places _ m (omega (arith, c.mark-k.ensures));
-      k_le_places_limit = omega (arith, p, l, c.mark-k.ensures);
+      inside = omega (arith, p, l, c.mark-k.ensures);
+      sized = all_sized a.places _ m (omega (arith, c.mark-k.ensures));
+      few = omega (arith, p, l, c.mark-k.ensures);
     }
 
 pub overflow_mul-end : goal.overflow_mul-end
@@ -46,8 +46,6 @@ print_pair-requires g c =
     let short : n ≤ 1136 = omega (arith, sizes_bound c.mark-k.result c.mark-k.result 1 a.m.now (all_sized a.places c.mark-k.result a.m.now (omega (arith, c.mark-k.ensures))) (omega arith) (omega arith), c.data_size-size.ensures, k, l, p) in
     let file = length_between 0 n (replicate {A = ℕ} 1136 0) (omega arith) (omega (arith, short)) ∙ file-size in
     let index = length_between 0 e (replicate {A = ℕ} 240 0) (omega arith) (omega (arith, p, l, k)) ∙ index_size_lem in record {
-      t_value = p.t_value;
-      m_len = (p.m_len, omega (arith, k), omega (arith, p, l, k));
       file_len = (file ∙ c.data_size-size.ensures, omega (arith, file, short));
-      index_len = index;
+      index_len = (index, omega (arith, p, l, k));
     }

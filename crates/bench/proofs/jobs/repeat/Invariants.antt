@@ -1,9 +1,0 @@
--- `jobs::repeat`. There is nothing to keep. The measure is the number of turns left.
--- Assumes nothing.
-use Rattle.bench.proofs.jobs.repeat.Given as goal
-
-abbrev pub invariant-loop-left : goal.invariant-loop-left
-invariant-loop-left l = Unit {0}
-
-abbrev pub decreases-loop-left : goal.decreases-loop-left
-decreases-loop-left l = l.left

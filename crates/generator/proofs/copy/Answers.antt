@@ -1,8 +1,0 @@
--- `copy`: server, both replicas and fate are the four draws behind s.
--- Assumes nothing.
-use Rattle.generator.specs.Load.{after}
-use Rattle.generator.proofs.copy.Goals as goal
-
-pub returns : goal.returns
-unfolding after
-returns c = rw (c.bare.ensures, c.fate.ensures, c.field-3.ensures.value, c.field-2.ensures.value, c.field.ensures.value, c.next-e.ensures, c.next-c.ensures, c.next-b.ensures, c.next-a.ensures)

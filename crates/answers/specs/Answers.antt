@@ -45,7 +45,7 @@ nothing =
 abbrev pub unchanged : List ℕ → Held → List ℕ → List ℕ → After
 unchanged text p m tables = record { text = text; held = p; media = m; tables = tables }
 
--- the cluster that the program holds: its media are the first bytes of those lent
+-- the cluster that the program holds: its media are the first bytes of those that it has room for
 abbrev pub cluster_of : Held → List ℕ → List ℕ → State
 cluster_of p m tables = record { records = p.records; media = take (p.shape.replicas * medium_size p.shape.places) m; tables = tables }
 

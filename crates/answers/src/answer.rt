@@ -49,7 +49,7 @@ pub struct Next {
 }
 
 // The cluster between two lines, in fixed memory.
-#[derive(Drop)]
+#[derive(Clone, Copy)]
 pub struct Cluster {
     pub held: Held,
     pub media: [u8; MEDIA],
@@ -57,7 +57,7 @@ pub struct Cluster {
 }
 
 // Room for what a line says beside its call.
-#[derive(Drop)]
+#[derive(Clone, Copy)]
 pub struct Room {
     pub content: [u8; LIMIT],
     pub locks: [u64; LIMIT],

@@ -1,4 +1,7 @@
 // A conversion of 1,000 old places with 28 bytes of data each. The old medium is made from a new one, place by place.
+ghost use Rattle.std.specs.Prelude.{◌≡◌, length};
+ghost use Rattle.bench.specs.Sizes.{old_medium};
+
 use crate::stage::{MEDIUM, Stage};
 use crate::turns;
 use crate::turns::total_of;
@@ -33,7 +36,9 @@ fn put_old(t: &Tables, out: &mut [u8], p: &[u8]) {
 }
 
 // The old medium of the first new one.
-fn make_old(out: &mut [u8; OLD_MEDIUM], stage: &Stage) {
+fn make_old(out: &mut [u8; OLD_MEDIUM], stage: &Stage)
+    requires { length out.old ≡ old_medium }
+{
     let t = Tables::new();
     let out = &mut out[..];
     out[..SLOTS].copy_from_slice(&stage.media[..SLOTS]);

@@ -74,7 +74,7 @@ pub fn admit_cluster(
     ensures { (m t : List ℕ) → length m ≡ media → length t ≡ tables → verdict_of result ≡ first_of (cluster_rows shape (state_of records m t)) }
 {
     refuse_if(is_outside(shape, media, tables), Refusal::OutsideShape)?;
-    refuse_if(mark_above(records, shape), Refusal::MarkAbovePlaces)
+    refuse_if(mark_above(&records, shape), Refusal::MarkAbovePlaces)
 }
 
 // 1 to 3, of a call that names a server.
@@ -120,9 +120,9 @@ pub fn admit_replica(
     ensures { (m t : List ℕ) → length m ≡ media → length t ≡ tables → verdict_of result ≡ first_of (replica_rows shape (state_of records m t) server unnamed phases) }
 {
     admit_server(shape, records, media, tables, server)?;
+    let other = !allowed(records.servers[server as usize].phase, phases);
     refuse_if(unnamed, Refusal::NoSuchReplica)?;
-    let phase = records.servers[server as usize].phase;
-    refuse_if(!allowed(phase, phases), Refusal::OtherPhase)
+    refuse_if(other, Refusal::OtherPhase)
 }
 
 // A reply without a place's bytes.
@@ -161,12 +161,16 @@ pub fn done(records: Records) -> Outcome
     replied(records, Answer::Done)
 }
 
-// A server's record is replaced once a call.
+// A server's record is replaced once a call. The outcome is made here: by way of `replied` the records are copied once more.
 pub fn settle(records: Records, i: usize, c: Change) -> Outcome
     requires { i < 4 }
     ensures { result ≡ changed records i c }
 {
-    replied(servers::put_server(records, i, c.server), c.answer)
+    Outcome {
+        records: servers::put_server(records, i, c.server),
+        answer: c.answer,
+        bytes: [0; PLACE],
+    }
 }
 
 // A server that declines stays as it is.

@@ -33,12 +33,14 @@ impl Tables {
     }
 }
 
-// The number that the four bytes from an offset on stand for, lowest first.
+// The number that the four bytes from an offset on stand for, lowest first. By sums: each byte is looked up by itself, and behind `from_le_bytes` the compiler
+// cuts the bytes out of a word again, for which the scan's lanes have no registers left (docs/DESIGN-PASS.md, "Speed").
 fn load(s: &[u8], at: usize) -> u32
     requires { at + 4 ≤ length s.now }
     ensures { result ≡ le_of (part at 4 s.now) }
 {
-    u32::from_le_bytes([s[at], s[at + 1], s[at + 2], s[at + 3]])
+    let upper = s[at + 3] as u32 * 256 + s[at + 2] as u32;
+    (upper * 256 + s[at + 1] as u32) * 256 + s[at] as u32
 }
 
 // What the bit steps of `width` bytes make of four, beside what is looked up already: a look-up for each byte of x.
@@ -94,16 +96,17 @@ fn tail(t: &Tables, s: &[u8], before: u32) -> u32
     single(t, &s[4..], four(t, s, 0, before))
 }
 
-// The CRC of a slice. Eight bytes go by their offset, as the lanes have it too (README, "Speed").
+// The CRC of a slice. The next eight bytes are reached by a sum, as in the lanes (README, "Speed").
 pub fn crc(t: &Tables, s: &[u8]) -> u32
     ensures { result ≡ crc_of s.now }
 {
-    let words = s.len() / 8;
     let mut r: u32 = 0xffff_ffff;
-    for i in 0..words {
-        r = eight(t, s, 8 * i, r);
+    let mut at = 0;
+    for _word in 0..s.len() / 8 {
+        r = eight(t, s, at, r);
+        at += 8;
     }
-    tail(t, &s[8 * words..], r) ^ 0xffff_ffff
+    tail(t, &s[at..], r) ^ 0xffff_ffff
 }
 
 // Whether the four bytes after the first k are the CRC of these.

@@ -21,7 +21,7 @@ use storage::operation::Operation;
 use storage::sizes::{Place, medium_size};
 
 // Where replica i's medium lies in the media.
-fn range_of(places: u64, i: usize) -> Range<usize>
+pub fn range_of(places: u64, i: usize) -> Range<usize>
     requires { (places ≤ places_limit) × (i < 7) }
     ensures { (result.start ≡ i * medium_size places) × (result.end ≡ i * medium_size places + medium_size places) }
 {

@@ -2,11 +2,11 @@
 // mark and opens.
 #![tactic(auto)]
 
-ghost use Rattle.std.specs.Prelude.{◌≡◌, false, ◌≤◌, length};
+ghost use Rattle.std.specs.Prelude.{◌≡◌, false, ◌<◌, ◌≤◌, length};
 ghost use Rattle.cluster.specs.Refusals.{outside, mark_above, pass, first_of};
 ghost use Rattle.checks.specs.Results.{state_of};
-ghost use Rattle.recovery.specs.Recovery.{played, after_take, recovery_rows, recovered};
-ghost use Rattle.recovery.specs.Asked.{asked_of, recovery_of, trail_of};
+ghost use Rattle.recovery.specs.Recovery.{played, not_below, after_take, recovery_rows, recovered};
+ghost use Rattle.recovery.specs.Asked.{asked_of, recovery_of, trail_of, Named};
 
 use cluster::{Answer, Records, Shape};
 use driver_calls::steps::{is_ok, open_session, take_session};
@@ -18,6 +18,7 @@ use recovery::{Asked, Recovered};
 // The prepares, the copies, and an open, whatever they came to.
 fn after_take(asked: &Asked, g: Recovered, media: &mut [u8], tables: &mut [u64]) -> Recovered
     requires tables_value { (outside asked.now.shape (length media.old) (length tables.old) ≡ false) × (mark_above asked.now.shape g.records ≡ false) }
+    requires server_bound { (asked.now.server < 4) × (not_below asked.now.shape.replicas asked.now.listed.now ≡ false) × (Named asked.now.listed.now) }
     requires calls_bound { g.calls ≤ 1 }
     ensures { let t = trail_of g media.old tables.old in trail_of result media.new tables.new ≡ played asked.now.shape t (after_take asked.now.shape (recovery_of asked.now) t) }
 {

@@ -1,10 +1,12 @@
 // The fate of a recovery's next call, and the bytes that lie beside it.
-ghost use Rattle.std.specs.Prelude.{◌≡◌};
-ghost use Rattle.recovery.specs.Recovery.{fate_at, given_at};
-ghost use Rattle.recovery.specs.Asked.{left_of, fate_of, recovery_of};
+ghost use Rattle.std.specs.Prelude.{◌≡◌, cond, ◌*◌, ltb, length, get_or};
+ghost use Rattle.octets.specs.Octets.{part};
+ghost use Rattle.fate.specs.declared.Fate.TheVariants.{Answered};
+ghost use Rattle.storage.specs.Sizes.{place_size};
+ghost use Rattle.cluster.specs.Effects.{no_bytes};
+ghost use Rattle.recovery.specs.Asked.{left_of, fate_of, fates_of};
 
 use fate::{Fate, Left};
-use recovery::Asked;
 use storage::sizes::{PLACE, Place};
 
 fn left_of(l: u64) -> Left
@@ -30,24 +32,25 @@ fn fate_of(code: u64) -> Fate
 }
 
 // The fate of the call after k others: answered once the list runs out.
-pub fn fate_at(asked: &Asked, k: u64) -> Fate
-    ensures { result ≡ fate_at (recovery_of asked.now) k }
+pub fn fate_at(fates: &[u64], k: u64) -> Fate
+    ensures { result ≡ get_or (fates_of fates.now) k Answered }
 {
-    match asked.fates.get(k as usize) {
+    match fates.get(k as usize) {
         Some(&code) => fate_of(code),
         None => Fate::Answered,
     }
 }
 
-// The bytes beside that fate: zeros once the list runs out.
-pub fn given_at(asked: &Asked, k: u64) -> Place
-    ensures { result ≡ given_at (recovery_of asked.now) k }
+// The bytes beside that fate, of so many: zeros once the list runs out.
+pub fn given_at(fates: usize, given: &[u8], k: u64) -> Place
+    requires { length given.now ≡ fates * place_size }
+    ensures { result ≡ cond (ltb k fates) (part (k * place_size) place_size given.now) no_bytes }
 {
     let mut out = [0; PLACE];
     let i = k as usize;
-    if i < asked.fates.len() {
+    if i < fates {
         let at = i * PLACE;
-        out.copy_from_slice(&asked.given[at..at + PLACE]);
+        out.copy_from_slice(&given[at..at + PLACE]);
     }
     out
 }

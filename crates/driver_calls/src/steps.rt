@@ -34,7 +34,7 @@ pub fn take_session(asked: &Asked, g: Recovered, media: &[u8], tables: &[u64]) -
     ensures { let t = trail_of g media.now tables.now in trail_of result media.now tables.now ≡ one asked.now.shape t (taking (recovery_of asked.now) t) }
 {
     let k = g.calls;
-    let f = fate_at(asked, k);
+    let f = fate_at(asked.fates, k);
     let o = take::take(asked.shape, g.records, media, tables, asked.server, f);
     count_call(o, k)
 }
@@ -50,8 +50,8 @@ pub fn prepare_replica(
     ensures { let t = trail_of g media.old tables.now in trail_of result media.new tables.now ≡ one asked.now.shape t (preparing (recovery_of asked.now) t replica) }
 {
     let k = g.calls;
-    let f = fate_at(asked, k);
-    let b = given_at(asked, k);
+    let f = fate_at(asked.fates, k);
+    let b = given_at(asked.fates.len(), asked.given, k);
     let o = calls::prepare(
         asked.shape,
         g.records,
@@ -77,8 +77,8 @@ pub fn copy_record(
     ensures { let t = trail_of g media.old tables.now in trail_of result media.new tables.now ≡ one asked.now.shape t (copying (recovery_of asked.now) t from to) }
 {
     let k = g.calls;
-    let f = fate_at(asked, k);
-    let b = given_at(asked, k);
+    let f = fate_at(asked.fates, k);
+    let b = given_at(asked.fates.len(), asked.given, k);
     let o = copy::copy(
         asked.shape,
         g.records,
@@ -98,7 +98,7 @@ pub fn open_session(asked: &Asked, g: Recovered, media: &[u8], tables: &mut [u64
     ensures { let t = trail_of g media.now tables.old in trail_of result media.now tables.new ≡ one asked.now.shape t (opening (recovery_of asked.now) t) }
 {
     let k = g.calls;
-    let f = fate_at(asked, k);
+    let f = fate_at(asked.fates, k);
     let o = open::open(asked.shape, g.records, media, tables, asked.server, f);
     count_call(o, k)
 }

@@ -3,7 +3,7 @@
 ghost use Rattle.std.specs.Prelude.{◌≡◌, ◌+◌, ◌<◌, ◌≤◌, ◌^◌};
 ghost use Rattle.cluster.specs.State.{server_at, mark_at};
 ghost use Rattle.recovery.specs.Recovery.{played, copies, copies_to, all_copies, lacks, highest_known, catching_up};
-ghost use Rattle.recovery.specs.Asked.{recovery_of, trail_of};
+ghost use Rattle.recovery.specs.Asked.{recovery_of, trail_of, Named};
 
 use cluster::{Records, Server};
 use driver_calls::steps::{copy_record, is_ok};
@@ -30,7 +30,7 @@ fn copy_up(
     to: u64,
     turns: u64,
 ) -> Recovered
-    requires to_in { to < 7 }
+    requires server_bound { (asked.now.server < 4) × (to < 7) }
     requires turns_bound { g.calls + turns < 2 ^ 64 }
     ensures { let t = trail_of g media.old tables.now in trail_of result media.new tables.now ≡ played asked.now.shape t (copies asked.now.shape (recovery_of asked.now) from mark to turns t) }
 {
@@ -64,7 +64,7 @@ fn copy_to(
     mark: u64,
     to: u64,
 ) -> Recovered
-    requires to_in { to < 7 }
+    requires server_bound { (asked.now.server < 4) × (to < 7) }
     requires mark_bound { g.calls + mark < 2 ^ 64 }
     ensures { let t = trail_of g media.old tables.now in trail_of result media.new tables.now ≡ played asked.now.shape t (copies_to asked.now.shape (recovery_of asked.now) from mark to t) }
 {
@@ -85,7 +85,8 @@ fn copy_all(
     from: u64,
     mark: u64,
 ) -> Recovered
-    requires { (g.calls ≤ 8) × (mark ≤ 1000) }
+    requires server_bound { (asked.now.server < 4) × (Named asked.now.listed.now) }
+    requires calls_bound { (g.calls ≤ 8) × (mark ≤ 1000) }
     ensures { let t = trail_of g media.old tables.now in trail_of result media.new tables.now ≡ played asked.now.shape t (all_copies asked.now.shape (recovery_of asked.now) from mark t asked.now.listed.now) }
 {
     let mut r = g;
@@ -97,7 +98,8 @@ fn copy_all(
 
 // Up to the highest mark of those that vote, from the first listed of them that has it: never from a restored one.
 pub fn catch_up(asked: &Asked, g: Recovered, media: &mut [u8], tables: &[u64]) -> Recovered
-    requires { (g.calls ≤ 8) × (highest_known (server_at g.records asked.now.server) asked.now.listed.now ≤ 1000) }
+    requires server_bound { (asked.now.server < 4) × (Named asked.now.listed.now) }
+    requires calls_bound { (g.calls ≤ 8) × (highest_known (server_at g.records asked.now.server) asked.now.listed.now ≤ 1000) }
     ensures { let t = trail_of g media.old tables.now in trail_of result media.new tables.now ≡ played asked.now.shape t (catching_up asked.now.shape (recovery_of asked.now) t) }
 {
     let v = g.records.servers[asked.server as usize];

@@ -43,7 +43,7 @@ closed p = cond (eqb (length p.line) 0) p (ended p)
 abbrev pub start : List ℕ → List ℕ → Program
 start m tables = record { line = []; held = nothing; media = m; tables = tables; out = [] }
 
--- all that is written for an input; the media and lock tables lent are zeros, which no line sees
+-- all that is written for an input; the media and lock tables held are zeros, which no line sees
 abbrev pub written_for : List ℕ → List ℕ
 written_for input = (closed (fed (start (replicate media_limit 0) (replicate tables_length 0)) input)).out
 

@@ -24,7 +24,7 @@ pub const OUT: usize = 98304;
 // The program between two pieces of input: its cluster, the first n bytes of a line, and in the first o bytes of `out` the replies that are
 // not written yet. Memory is fixed: there is no heap for a `String` or a `Vec`, so each length stands beside its bytes.
 // Tried: a ghost field that n is at most 501. With one the check does not cover `reply`, which lends the line.
-#[derive(Drop)]
+#[derive(Clone, Copy)]
 pub struct Running {
     pub crc: Tables,
     pub blank: Blank,

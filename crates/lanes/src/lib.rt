@@ -44,8 +44,8 @@ fn abreast(t: &Tables, s: &[u8], at: usize, size: usize, wide: bool, before: Reg
     next
 }
 
-// So many words of each piece, two at a time. By index: the lanes read at offsets of one slice, which chunks of it are not. The lanes' next state has a
-// name of its own, since Rattle does not lay a call's array in a variable that has one already.
+// So many words of each piece, two at a time, each reached by a sum (README, "Speed"). By offset: the lanes read at offsets of one slice, which chunks of it
+// are not. The lanes' next state has a name of its own, since Rattle does not lay a call's array in a variable that has one already.
 pub fn words(
     t: &Tables,
     s: &[u8],
@@ -58,16 +58,17 @@ pub fn words(
     requires count_bound { at + 4 * count ≤ size }
     ensures { Onward (4 * count) at size s.now before result }
 {
-    let pairs = count / 2;
     let mut r = before;
-    for i in 0..pairs {
-        let next = abreast(t, s, at + 8 * i, size, true, r);
+    let mut a = at;
+    for _pair in 0..count / 2 {
+        let next = abreast(t, s, a, size, true, r);
         r = next;
+        a += 8;
     }
     if count % 2 == 0 {
         return r;
     }
-    abreast(t, s, at + 8 * pairs, size, false, r)
+    abreast(t, s, a, size, false, r)
 }
 
 // The register after the eight bytes of a number: a small one takes two look-ups, since its upper bytes are zeros.

@@ -16,52 +16,52 @@ fn closing_fits(c: Closing, n: u64) -> bool
     }
 }
 
-// The loops over entries and marks run over all seven: with a fixed count the compiler unrolls them, and copies none to look at it.
-fn entries_fit(entries: [Entry; 7], shape: Shape) -> bool
+// Records are lent here, and looked at without a copy. The loops over entries and marks run over all seven: with a fixed count the compiler unrolls them.
+fn entries_fit(entries: &[Entry; 7], shape: Shape) -> bool
     requires { shape.replicas ≤ 7 }
-    ensures { result ≡ entries_fit shape entries }
+    ensures { result ≡ entries_fit shape entries.now }
 {
     let mut ok = true;
     let r = shape.replicas as usize;
     for i in 0..7 {
-        ok &= r <= i || closing_fits(entries[i].closing, shape.places);
+        ok &= (r <= i) | closing_fits(entries[i].closing, shape.places);
     }
     ok
 }
 
-fn marks_fit(marks: [u64; 7], shape: Shape) -> bool
+fn marks_fit(marks: &[u64; 7], shape: Shape) -> bool
     requires { shape.replicas ≤ 7 }
-    ensures { result ≡ below_fits shape marks }
+    ensures { result ≡ below_fits shape marks.now }
 {
     let mut ok = true;
     let r = shape.replicas as usize;
     for i in 0..7 {
-        ok &= r <= i || marks[i] <= shape.places;
+        ok &= (r <= i) | (marks[i] <= shape.places);
     }
     ok
 }
 
-fn server_fits(s: Server, shape: Shape) -> bool
+fn server_fits(s: &Server, shape: Shape) -> bool
     requires { shape.replicas ≤ 7 }
-    ensures { result ≡ server_fits shape s }
+    ensures { result ≡ server_fits shape s.now }
 {
     let n = shape.places;
-    entries_fit(s.entries, shape)
-        && marks_fit(s.marks, shape)
-        && s.start <= n
-        && s.issued <= n
-        && s.acked <= n
+    entries_fit(&s.entries, shape)
+        & marks_fit(&s.marks, shape)
+        & (s.start <= n)
+        & (s.issued <= n)
+        & (s.acked <= n)
 }
 
-// 2: a mark in the register or a server record is above N. The servers are named one by one, for the same reason.
-pub fn mark_above(records: Records, shape: Shape) -> bool
+// 2: a mark in the register or a server record is above N. The servers are named one by one, for the same reason as entries and marks are.
+pub fn mark_above(records: &Records, shape: Shape) -> bool
     requires { shape.replicas ≤ 7 }
-    ensures { result ≡ mark_above shape records }
+    ensures { result ≡ mark_above shape records.now }
 {
-    let [a, b, c, d] = records.servers;
-    let fit = server_fits(a, shape)
-        && server_fits(b, shape)
-        && server_fits(c, shape)
-        && server_fits(d, shape);
-    !(entries_fit(records.register.entries, shape) && fit)
+    let servers = &records.servers;
+    let fit = server_fits(&servers[0], shape)
+        & server_fits(&servers[1], shape)
+        & server_fits(&servers[2], shape)
+        & server_fits(&servers[3], shape);
+    !(entries_fit(&records.register.entries, shape) & fit)
 }

@@ -9,12 +9,20 @@ use native.Mathlib.Numerals.{add-one}
 use native.Mathlib.Omega.{arith}
 use lib.Dec.{eqb, lit<}
 use lib.Arith.{digits_lt}
-use lib.ListN.{length, get_or, drop, set, drop_of_length-le}
-use lib.Seq.{drop-cons, drop-set-lt, get_or-set_same, lt-length-set}
+use lib.ListN.{length, get_or, take, drop, set, drop_of_length-le}
+use lib.Seq.{drop-cons, take-suc, take-suc-set, drop-set-lt, get_or-set_same, lt-length-set, take_all}
 use Rattle.octets.specs.Octets.{be_from, be_bytes, all_zero}
 
 pub drop_next : (s : List ℕ) (i : ℕ) → i < length s → drop i s ≡ get_or s i 0 ∷ drop (i + 1) s
 drop_next s i h = rw (add-one, drop-cons s i 0)
+
+-- a copy's turn
+pub copy_next : (d s : List ℕ) (i : ℕ) → take i d ≡ take i s → i < length d → i < length s → take (i + 1) (set d i (get_or s i 0)) ≡ take (i + 1) s
+copy_next d s i e hd hs = rw (add-one, take-suc-set d i (get_or s i 0) hd, take-suc s i 0 hs, e)
+
+-- a copy's end
+pub copy_end : (d s : List ℕ) (i : ℕ) → take i d ≡ take i s → length d ≤ i → length s ≤ i → d ≡ s
+copy_end d s i e hd hs = sym (take_all i d hd) ∙ e ∙ take_all i s hs
 
 suc_sub_one : (j : ℕ) → suc j - 1 ≡ j
 suc_sub_one j = omega arith

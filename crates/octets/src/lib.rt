@@ -4,12 +4,14 @@
 ghost use Rattle.std.specs.Prelude.{◌≡◌, ◌&&◌, ◌+◌, ◌≤◌, ◌<◌, ◌^◌, eqb, length, replicate};
 ghost use Rattle.octets.specs.Octets.{write_at, be_of, be_bytes, all_zero};
 
-// dst becomes src.
+// dst becomes src. By index: `copy_from_slice` is a call of memmove, which the archive for C would then need from outside, and slower where few bytes are copied.
 pub fn copy(dst: &mut [u8], src: &[u8])
     requires { length dst.old ≡ length src.now }
     ensures { dst.new ≡ src.now }
 {
-    dst.copy_from_slice(src);
+    for i in 0..src.len() {
+        dst[i] = src[i];
+    }
 }
 
 pub fn clear(dst: &mut [u8])
@@ -23,7 +25,7 @@ pub fn put(m: &mut [u8], at: usize, src: &[u8])
     requires { at + length src.now ≤ length m.old }
     ensures { m.new ≡ write_at at src.now m.old }
 {
-    m[at..at + src.len()].copy_from_slice(src);
+    copy(&mut m[at..at + src.len()], src);
 }
 
 // The number that at most eight bytes stand for, byte by byte.

@@ -26,7 +26,7 @@ pub fn crc(to: &mut impl Write, line: &Line<'_>) -> Result<(), Failure> {
 // The check of b, in digits.
 pub fn print_crc(to: &mut impl Write, line: &Line<'_>, b: &[u8]) -> Result<(), Failure> {
     let crc = crc32::crc(line.tables, b);
-    write!(to, "{crc:08X}")?;
+    print::digits(to, &crc.to_be_bytes())?;
     Ok(())
 }
 

@@ -25,6 +25,6 @@ offset_bounds-records-server c = let b = bounds-records-server c in omega (arith
 pub returns : goal.returns
 returns c =
     λ m t em et.
-    rw (← c.allowed.ensures)
+    rw (← c.allowed-other.ensures)
     (behind (server_rows _ (state_of _ m t) _) _ (c.in_ok-admit_server.ensures m t em et)
     (behind (row 4 _ ∷ []) _ c.in_ok-refuse_if.ensures c.refuse_if-2.ensures))

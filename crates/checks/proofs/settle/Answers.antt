@@ -1,5 +1,5 @@
--- `checks::settle`: `put_server` ensures the records, `replied` the rest.
+-- `checks::settle`: `put_server` ensures the records.
 use Rattle.checks.proofs.settle.Goals as goal
 
 pub returns : goal.returns
-returns c = rw (c.replied.ensures, c.put_server.ensures)
+returns c = rw c.put_server.ensures

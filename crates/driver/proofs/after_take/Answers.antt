@@ -14,8 +14,11 @@ catch_up-c-requires c =
     let d = a.asked.now in
     let t = trail_of a.g a.media.now a.tables.now in
     let e = c.prepare_all-p.ensures in
-    let few : a.g.calls + length d.listed.now ≤ 8 = omega (arith, p.calls_bound, d.few) in
-    (count_prepared d.shape (recovery_of d) t e few, mark_prepared d.shape (recovery_of d) t e few (record { inside = p.tables_value.0; fits = p.tables_value.1 }) d.server_in d.listed_in)
+    let n = p.server_bound in
+    let few : a.g.calls + length d.listed.now ≤ 8 = omega (arith, p.calls_bound, n.2.few) in record {
+      server_bound = (n.0, n.2);
+      calls_bound = (count_prepared d.shape (recovery_of d) t e few, mark_prepared d.shape (recovery_of d) t e few (record { inside = p.tables_value.0; fits = p.tables_value.1 }) n.0 n.1);
+    }
 
 pub open_session-requires : goal.open_session-requires
 open_session-requires c =
@@ -23,8 +26,9 @@ open_session-requires c =
     let p = c.requires in
     let d = a.asked.now in
     let t = trail_of a.g a.media.now a.tables.now in
-    let few : a.g.calls + length d.listed.now ≤ 8 = omega (arith, p.calls_bound, d.few) in
-    count_copied d.shape (recovery_of d) t c.prepare_all-p.ensures few (record { inside = p.tables_value.0; fits = p.tables_value.1 }) d.server_in d.listed_in c.catch_up-c.ensures d.few
+    let n = p.server_bound in
+    let few : a.g.calls + length d.listed.now ≤ 8 = omega (arith, p.calls_bound, n.2.few) in
+    count_copied d.shape (recovery_of d) t c.prepare_all-p.ensures few (record { inside = p.tables_value.0; fits = p.tables_value.1 }) n.0 n.1 c.catch_up-c.ensures n.2.few
 
 pub returns : goal.returns
 returns c =

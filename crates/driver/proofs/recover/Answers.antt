@@ -15,7 +15,7 @@ pub invariant_of-asked : goal.invariant_of-asked
 invariant_of-asked c =
     let a = c.args in
     let k = known a.shape (state_of a.records a.media.now a.tables.now) a.server a.listed.now a.fates.now a.given.now (sym c.in-Ok.ensures) in
-    record { server_in = k.server; listed_in = k.below; few = k.named.few; below = k.named.below; given_len = k.beside }
+    record { given_len = k.beside }
 
 pub run-requires : goal.run-requires
 run-requires c = sym c.in-Ok.ensures

@@ -26,6 +26,7 @@ after_take-requires c =
     let e = c.take_session-t.ensures in
     let s = after_take_lem q.shape d (start q.shape d x) e k.steady in record {
       tables_value = (s.inside, s.fits);
+      server_bound = (k.server, k.below, k.named);
       calls_bound = omega (arith, ap (λ (t : Trail). t.count) e);
     }
 

@@ -3,19 +3,14 @@ use mathlib.Core.Path.{ap, ◌∙◌}
 use native.Mathlib.Omega.{arith}
 use Rattle.base.specs.Below.{all}
 use Rattle.cluster.specs.Refusals.{entries_fit}
-use Rattle.mark_checks.proofs.Bounded.{bounded_none, bounded_beyond, bounded_within}
+use Rattle.mark_checks.proofs.Bounded.{bounded_none, bounded_step}
 use Rattle.mark_checks.proofs.entries_fit.Goals as goal
-use Rattle.mark_checks.proofs.entries_fit.Goals.{then-r-i, else-r-i}
 
 pub loop-i-init : goal.loop-i-init
 loop-i-init c = bounded_none _ _
 
 pub loop-i-preserved : goal.loop-i-preserved
-loop-i-preserved c =
-    elim c.if-r-i.branch [
-      | then-r-i w ↦ bounded_beyond _ _ _ _ _ c.loop-i.invariant w.if-r-i.true w.ok-is
-      | else-r-i w ↦ bounded_within _ _ _ _ _ c.loop-i.invariant w.if-r-i.false (w.ok-is ∙ w.closing_fits.ensures)
-    ]
+loop-i-preserved c = bounded_step _ _ _ _ _ c.loop-i.invariant c.closing_fits.ensures
 
 pub returns : goal.returns
 unfolding entries_fit

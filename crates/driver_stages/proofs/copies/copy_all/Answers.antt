@@ -13,9 +13,10 @@ loop-to-init c = (refl, omega arith, refl)
 
 pub copy_to-r-requires : goal.copy_to-r-requires
 copy_to-r-requires c =
-    let d = c.args.asked.now in record {
-      to_in = d.below _ c.loop-to-test.true;
-      mark_bound = omega (arith, d.few, c.requires, c.loop-to.invariant.1, c.loop-to-test.true);
+    let p = c.requires in
+    let named = p.server_bound.1 in record {
+      server_bound = (p.server_bound.0, named.below _ c.loop-to-test.true);
+      mark_bound = omega (arith, named.few, p.calls_bound, c.loop-to.invariant.1, c.loop-to-test.true);
     }
 
 pub loop-to-preserved : goal.loop-to-preserved
@@ -24,7 +25,7 @@ loop-to-preserved c =
     let l = c.loop-to in
     let e = c.copy_to-r.ensures in (
       search rules,
-      omega (arith, ap (λ (t : Trail). t.count) e, copies_to_count _ _ _ _ _ (trail_of l.r l.media a.tables.now) e, l.invariant.1, c.requires),
+      omega (arith, ap (λ (t : Trail). t.count) e, copies_to_count _ _ _ _ _ (trail_of l.r l.media a.tables.now) e, l.invariant.1, c.requires.calls_bound),
       over_turn _ a.asked.now.listed.now l.to-index l.invariant.2 c.loop-to-test.true e,
     )
 
